@@ -1,0 +1,53 @@
+// What every crate speaks of: why a call is refused. The tests and lists of specs/ are the words of all definitions.
+ghost use mathlib.Core.Path.{_≡_};
+ghost use Rattle.base.specs.Refusals.{number, culprit};
+
+// Why a call is refused, in the order of document 01's numbers. A malformed candidate is named by its LBN.
+pub enum Refusal {
+    BadImage,
+    BadPartition,
+    BadBuffer,
+    Malformed(usize),
+    Unsound,
+    NoCandidate,
+    BadBlock,
+    Full,
+    NothingFree,
+    NoAddress,
+}
+
+// Document 01's number of a refusal.
+pub fn number(why: Refusal) -> u32
+    ensures { λ r. ⌜ r ≡ number why ⌝ }
+{
+    match why {
+        Refusal::BadImage => 1,
+        Refusal::BadPartition => 2,
+        Refusal::BadBuffer => 3,
+        Refusal::Malformed(_) => 4,
+        Refusal::Unsound => 5,
+        Refusal::NoCandidate => 6,
+        Refusal::BadBlock => 7,
+        Refusal::Full => 8,
+        Refusal::NothingFree => 9,
+        Refusal::NoAddress => 10,
+    }
+}
+
+// The block that a refusal names, or 0.
+pub fn culprit(why: Refusal) -> usize
+    ensures { λ r. ⌜ r ≡ culprit why ⌝ }
+{
+    match why {
+        Refusal::BadImage => 0,
+        Refusal::BadPartition => 0,
+        Refusal::BadBuffer => 0,
+        Refusal::Malformed(f) => f,
+        Refusal::Unsound => 0,
+        Refusal::NoCandidate => 0,
+        Refusal::BadBlock => 0,
+        Refusal::Full => 0,
+        Refusal::NothingFree => 0,
+        Refusal::NoAddress => 0,
+    }
+}

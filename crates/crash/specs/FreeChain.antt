@@ -1,0 +1,97 @@
+-- What makes a partition sound: linked files, and a list that is its free chain. A list of distinct blocks is no longer than the
+-- partition, so that the walk along the chain comes to its end.
+use mathlib.Core.Path.{_≡_, refl, sym, ap, _∙_, subst}
+use mathlib.Core.List.{List, [], _∷_}
+use mathlib.Core.Bool.{Bool, true, false, _||_, not}
+use Prim.Native.Nat.{ℕ, zero, suc, _+_, _-_, _≤_, _<_}
+use native.Mathlib.Omega.{arith}
+use lib.Dec.{leb, ltb, eqb}
+use lib.ListN.{length}
+use borrow.Author.Tests.{ltb-true, eqb-true, lt-ltb, eq-eqb, ne-eqb, le-leb, leb-true}
+use Rattle.base.specs.Tests.{pick, both, every, headOf, lastOf, occ}
+use Rattle.drive.specs.Address.{pda, lda, ldaBlock}
+use Rattle.drive.specs.Laws.{lda-back}
+use Rattle.image.specs.View.{View, pair}
+use Rattle.base.specs.Laws.{cons-same, all-of, both-left, both-right, both-of}
+use Rattle.volume.specs.Files.{Partition, freeSound, inside, candidate, wellFormed, owned, free, chain, chained, linked, sound, within}
+use Rattle.volume.specs.Agree.{Clean}
+use Rattle.frame.specs.Chain.{chain-end, chain-on}
+use Rattle.crash.specs.Links.{Links, of-links}
+use Rattle.crash.specs.Sums.{sum, sum-add, sum-nil, sum-most, sum-here}
+
+-- ---- a list of distinct blocks of the partition is no longer than the partition
+
+pub length-sum : (π : Partition) (l : List ℕ) → π.s < π.e → within π l ≡ true → length l ≡ sum (π.e - π.s) (λ i. occ (suc (π.s + i)) l)
+unfolding within occ inside
+length-sum π [] g h = sym (sum-nil (π.e - π.s))
+length-sum π (x ∷ l) g h =
+    let n = both-left (both (ltb π.s x) (leb x π.e)) _ h in
+    let lo = ltb-true π.s x (both-left _ _ n) in
+    let hi = leb-true x π.e (both-right _ _ n) in
+    omega (arith, length-sum π l g (both-right _ _ h), sum-here π.s (π.e - π.s) x lo (omega arith), sum-add (π.e - π.s) (λ i. pick (eqb (suc (π.s + i)) x) 1 0) (λ i. occ (suc (π.s + i)) l))
+
+pub pigeons : (π : Partition) (l : List ℕ) → π.s < π.e → within π l ≡ true → ((b : ℕ) → inside π b ≡ true → occ b l ≤ 1) → length l ≤ π.e - π.s
+unfolding inside
+pigeons π l g h k = omega (arith, length-sum π l g h, sum-most (π.e - π.s) (λ i. occ (suc (π.s + i)) l) (λ i m. k (suc (π.s + i)) (both-of (lt-ltb π.s (suc (π.s + i)) (omega arith)) (le-leb (suc (π.s + i)) π.e (omega arith)))))
+
+pub in-range : (π : Partition) (i : ℕ) → i < π.e - π.s → inside π (suc (π.s + i)) ≡ true
+unfolding inside
+in-range π i m = both-of (lt-ltb π.s (suc (π.s + i)) (omega arith)) (le-leb (suc (π.s + i)) π.e (omega arith))
+
+module _ (π : Partition) where
+  -- ---- the free chain
+
+  module _ (v : View) where
+    -- a list is the free chain of v
+    pub record IsFree (l : List ℕ) : Type 0 where
+      pub inn : within π l ≡ true
+      pub ways : chained π v 0 l ≡ true
+      pub once : (b : ℕ) → inside π b ≡ true → occ b l ≡ pick (owned π v b) 0 1
+      pub head : pair v π.s 8 ≡ lda π.drive (headOf 0 l)
+      pub tail : pair v π.s 10 ≡ lda π.drive (lastOf 0 l)
+      pub number : pair v π.s 12 ≡ length l
+      pub some : 0 < length l
+
+    chain-list : (fuel x y : ℕ) (l : List ℕ) → within π (y ∷ l) ≡ true → chained π v x (y ∷ l) ≡ true → length (y ∷ l) ≤ fuel → chain π v fuel y ≡ y ∷ l
+    unfolding chained headOf within inside
+    chain-list zero x y l h k m = absurd (omega arith)
+    chain-list (suc n) x y [] h k m = chain-end (λ _. true) π v n y (eqb-true _ _ (both-left _ _ (both-right _ _ k)))
+    chain-list (suc n) x y (z ∷ l) h k m =
+        let i = both-left _ _ (both-right _ _ h) in
+        let lo = ltb-true π.s z (both-left _ _ i) in
+        chain-on (λ _. true) π v n y z (eqb-true _ _ (both-left _ _ (both-right _ _ k)) ∙ ap (λ (t : Bool). pick t 0 (pda π.drive z)) (ne-eqb z 0 (λ q. omega arith)))
+        ∙ ap (λ (r : List ℕ). y ∷ r) (chain-list n y z l (both-right _ _ h) (both-right _ _ (both-right _ _ k)) (omega arith))
+
+  free-list : (v : View) (l : List ℕ) → π.s < π.e → IsFree v l → free π v ≡ l
+  unfolding free headOf
+  free-list v [] g h = absurd (omega (arith, h .some))
+  free-list v (y ∷ l) g h =
+      ap (chain π v (π.e - π.s)) (ap (ldaBlock π.drive) (h .head) ∙ lda-back π.drive y)
+      ∙ chain-list v (π.e - π.s) 0 y l (h .inn) (h .ways) (pigeons π (y ∷ l) g (h .inn) (λ b n. most (owned π v b) (h .once b n)))
+    where
+      most : (t : Bool) {n : ℕ} → n ≡ pick t 0 1 → n ≤ 1
+      most true q = omega arith
+      most false q = omega arith
+
+  pub sound-of : (v : View) (l : List ℕ) → π.s < π.e → IsFree v l → Clean π v → ((f : ℕ) → candidate π v f ≡ true → Links π v f) → sound π v ≡ true
+  unfolding sound freeSound every
+  sound-of v l g h c k = both-of
+      (all-of (π.e - π.s) _ (λ i m. ok (suc (π.s + i)) (candidate π v (suc (π.s + i))) refl))
+      (ap every
+      (cons-same (all-of (π.e - π.s) _ (λ i m. eq-eqb _ _ (ap (occ (suc (π.s + i))) is ∙ h .once (suc (π.s + i)) (ins i m))))
+      (cons-same (ap (within π) is ∙ h .inn)
+      (cons-same (ap (chained π v 0) is ∙ h .ways)
+      (cons-same (eq-eqb _ _ (h .head ∙ ap (λ (x : List ℕ). lda π.drive (headOf 0 x)) (sym is)))
+      (cons-same (eq-eqb _ _ (h .tail ∙ ap (λ (x : List ℕ). lda π.drive (lastOf 0 x)) (sym is)))
+      (cons-same (eq-eqb _ _ (h .number ∙ ap length (sym is)))
+      (cons-same {l = []} (lt-ltb _ _ (subst (λ (x : List ℕ). 0 < length x) (sym is) (h .some))) refl))))))))
+    where
+      ins : (i : ℕ) → i < π.e - π.s → inside π (suc (π.s + i)) ≡ true
+      ins i m = in-range π i m
+
+      ok : (f : ℕ) (t : Bool) → candidate π v f ≡ t → (not t || both (wellFormed π v f) (linked π v f)) ≡ true
+      ok f true q = both-of (c f q) (of-links π v f (k f q))
+      ok f false q = refl
+
+      is : free π v ≡ l
+      is = free-list v l g h

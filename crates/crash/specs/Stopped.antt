@@ -1,0 +1,59 @@
+-- One call on a sound partition, stopped after any number of its stores, and then repairs that are stopped too: all or nothing.
+use mathlib.Core.Path.{_≡_, refl, subst}
+use mathlib.Core.Logic.{_≢_}
+use mathlib.Core.List.{[]}
+use mathlib.Core.Bool.{Bool, true, false}
+use Prim.Native.Nat.{ℕ, zero, suc, _<_}
+use lib.Dec.{ltb}
+use lib.ListN.{take, length}
+use borrow.Author.Tests.{ltb-true, ltb-false}
+use Rattle.base.specs.Tests.{pick}
+use Rattle.image.specs.View.{View, after}
+use Rattle.volume.specs.Files.{Partition, unowned, sound}
+use Rattle.volume.specs.Agree.{Clean}
+use Rattle.volume.specs.Plans.{stores}
+use Rattle.frame.specs.Sound.{sound-clean, spare-block}
+use Rattle.volume.specs.Calls.{Planned}
+use Rattle.crash.specs.SameFile.{SameFile, file-refl}
+use Rattle.crash.specs.Cut.{Repairs, Survives, survives, cut-before, cut-after, others-same}
+use Rattle.crash.specs.Settled.{Settled, refused, done}
+
+module _ (π : Partition) (low : π.s < π.e) (pos : 0 < π.s) (v : View) (ok : sound π v ≡ true) (f : ℕ) where
+  cl : Clean π v
+  cl = sound-clean π v ok
+
+  some : unowned π v ≢ []
+  some = spare-block π v ok
+
+  none : (k : ℕ) → after (take k []) v ≡ v
+  unfolding after
+  none zero = refl
+  none (suc k) = refl
+
+  -- whole, or refused, it leaves a sound partition
+  pub whole-sound : (x : Planned) → Settled π v f x → sound π (after (x .list) v) ≡ true
+  unfolding after
+  whole-sound _ (refused y) = ok
+  whole-sound _ (done a P o) = o .whole
+
+  -- and the other files as they were
+  pub whole-others : (x : Planned) → Settled π v f x → (g : ℕ) → g ≢ f → SameFile π v (after (x .list) v) g
+  unfolding after stores
+  whole-others _ (refused y) g n = file-refl π v g
+  whole-others _ (done a P o) g n = others-same π low pos v cl some (P .before) (P .deciding) (P .rest) f (o .good) g n
+
+  -- stopped after k stores, and repaired up to u: the next repair is not refused, and ends with the files of before the call, or of the
+  -- whole call if the deciding store was made
+  pub stopped-survives : (x : Planned) → Settled π v f x → (k : ℕ) {u : View} → Repairs π (after (take k (x .list)) v) u
+      → Survives π (pick (ltb (x .deciding) k) (after (x .list) v) v) u
+  unfolding after stores
+  stopped-survives _ (refused y) k {u} r = go (ltb 0 k)
+    where
+      go : (t : Bool) → Survives π (pick t v v) u
+      go true = survives π low pos v cl some (subst (λ (w : View). Repairs π w u) (none k) r)
+      go false = survives π low pos v cl some (subst (λ (w : View). Repairs π w u) (none k) r)
+  stopped-survives _ (done a P o) k {u} r = go (ltb (length (P .before)) k) refl r
+    where
+      go : (t : Bool) → ltb (length (P .before)) k ≡ t → Repairs π (after (take k (stores P)) v) u → Survives π (pick t (after (stores P) v) v) u
+      go true q r = cut-after π low pos v cl some (P .before) (P .deciding) (P .rest) f (o .good) k (ltb-true _ _ q) r
+      go false q r = cut-before π low pos v cl some (P .before) (P .deciding) (P .rest) f (o .good) k (ltb-false _ _ q) r

@@ -1,0 +1,261 @@
+-- Demand 3, proved.
+use mathlib.Core.Path.{_≡_, refl, sym, ap, ap₂, _∙_, subst}
+use mathlib.Core.Logic.{_≢_}
+use mathlib.Core.List.{List, [], _∷_}
+use mathlib.Core.Bool.{Bool, true, false, true≢false}
+use Prim.Native.Nat.{ℕ, suc, _+_, _-_, _*_, _<_}
+use native.Mathlib.Omega.{arith}
+use lib.Dec.{leb, ltb, eqb}
+use lib.ListN.{take}
+use borrow.Author.Tests.{ltb-true, ltb-false, eqb-true, eqb-false}
+use Rattle.base.specs.Tests.{pick, both}
+use Rattle.base.specs.Laws.{pick-same, both-left}
+use Rattle.drive.specs.Address.{ldaBlock}
+use Rattle.image.specs.View.{View, Store, after}
+use Rattle.image.specs.Image.{view}
+use Rattle.volume.specs.Files.{Partition, partitionOf, unowned, inside, candidate, len, ptrsFor, ptrs, indirect, ptr, name, nth, size, wellFormed, isFile, files, sound}
+use Rattle.volume.specs.Agree.{Clean}
+use Rattle.volume.specs.Plans.{repairStores}
+use Rattle.frame.specs.Soft.{cand-in, spare}
+use Rattle.frame.specs.Turn.{Each, each-take}
+use Rattle.volume.specs.Calls.{Call, create, write, describe, destroy, repair, Planned, planned}
+use Rattle.volume.specs.declared.Found.the-variants.{At}
+use Rattle.crash.specs.SameFile as views
+use Rattle.crash.specs.SameFile.{file-trans, file-refl, file-same}
+use Rattle.crash.specs.Cut as cuts
+use Rattle.crash.specs.Cut.{survives}
+use Rattle.crash.specs.Lawful.{Lawful, repair-lawful}
+use Rattle.crash.specs.Settled.{Settled, refused, done}
+use Rattle.crash.specs.Stopped.{whole-sound, whole-others, stopped-survives}
+use Rattle.crash.specs.Held.{Held, placed, end-is, view-after, held-after}
+use Rattle.crash.specs.Accepting.{Sound, sound-accepted, accepted-sound, block, settled, repair-is}
+use Rattle.crash.specs.Statement.{Proper, AllProper, isDone, stopped, whole, runs, Repairs, none, again, here, SameContent, SameFile, named, Survives, Demand3}
+
+-- ---- a file that is the same in two views of one partition is the same in the images
+
+module _ {d s e : ℕ} {l l′ : List ℕ} (h : Held d s e l) (h′ : Held d s e l′) where
+  abbrev π : Partition
+  π = partitionOf d s e
+
+  here-is : here d s l ≡ partitionOf d s e
+  here-is = ap (partitionOf d s) (end-is h)
+
+  here-is′ : here d s l′ ≡ partitionOf d s e
+  here-is′ = ap (partitionOf d s) (end-is h′)
+
+  module _ (f : ℕ) (q : views.SameFile (partitionOf d s e) (view l) (view l′) f) where
+    module _ (i : isFile (partitionOf d s e) (view l) f ≡ true) where
+      ptrs-same : ptrs π (view l) f ≡ ptrs π (view l′) f
+      unfolding ptrs
+      ptrs-same = ap ptrsFor (q .long i)
+
+      ptr-same : (j : ℕ) → ptr π (view l) f j ≡ ptr π (view l′) f j
+      unfolding ptr indirect
+      ptr-same j = ap (ldaBlock d) (ap₂ (λ (x y : ℕ). x + 65536 * y) (q .fib i (188 + 2 * j) (omega arith)) (q .fib i (188 + 2 * j + 1) (omega arith)))
+
+      -- place by place in link order
+      nth-same : (j : ℕ) → j < size π (view l) f → nth π (view l) f j ≡ nth π (view l′) f j
+      unfolding nth size
+      nth-same j m =
+          let p = ptrs π (view l) f in
+          pick-same (ltb j p) (λ _. ptr-same (p - suc j))
+          (λ n. pick-same (eqb j p) (λ _. refl) (λ k. q .blocks i (j - suc p) (omega (arith, ltb-false j p n, eqb-false j p k))))
+          ∙ ap (λ (x : ℕ). pick (ltb j x) (ptr π (view l′) f (x - suc j)) (pick (eqb j x) f (name π (view l′) f (j - suc x)))) ptrs-same
+
+      same-content : SameContent d s l l′ f
+      same-content = record {
+        long = ap (λ (ρ : Partition). len ρ (view l) f) here-is ∙ q .long i ∙ sym (ap (λ (ρ : Partition). len ρ (view l′) f) here-is′);
+        blocks = λ j m. ap (λ (ρ : Partition). nth ρ (view l) f j) here-is ∙ nth-same j (subst (λ (ρ : Partition). j < size ρ (view l) f) here-is m) ∙ sym (ap (λ (ρ : Partition). nth ρ (view l′) f j) here-is′);
+        bytes = λ r m k _. ap (λ (ρ : Partition). view l (name ρ (view l) f r) (8 + k)) here-is
+            ∙ q .bytes i r (subst (λ (ρ : Partition). r < len ρ (view l) f) here-is m) (8 + k) (omega arith)
+            ∙ sym (ap (λ (ρ : Partition). view l′ (name ρ (view l′) f r) (8 + k)) here-is′);
+        kind = q .fib i 256 (omega arith);
+        description = λ k _. q .fib i (8 + k) (omega arith);
+      }
+
+    pub same-file : SameFile d s l l′ f
+    same-file = record {
+      there = ap (λ (ρ : Partition). isFile ρ (view l) f) here-is ∙ q .is ∙ sym (ap (λ (ρ : Partition). isFile ρ (view l′) f) here-is′);
+      content = λ i. same-content (sym (ap (λ (ρ : Partition). isFile ρ (view l) f) here-is) ∙ i);
+    }
+
+-- ---- one call
+
+settled-lawful : {π : Partition} {v : View} {f : ℕ} (x : Planned) → Settled π v f x → Each (Lawful π v) (x .list)
+settled-lawful _ (refused y) = tt
+settled-lawful _ (done a P o) = o .lawful
+
+-- block 0 is a file in no partition
+zero-no : (ρ : Partition) (v : View) → isFile ρ v 0 ≡ false
+unfolding isFile both inside
+zero-no ρ v = ap (λ (t : Bool). both t (wellFormed ρ v 0)) (go (candidate ρ v 0) refl)
+  where
+    go : (t : Bool) → candidate ρ v 0 ≡ t → t ≡ false
+    go true q = absurd (omega (arith, ltb-true ρ.s 0 (both-left (ltb ρ.s 0) (leb 0 ρ.e) (cand-in ρ v 0 q))))
+    go false q = refl
+
+no-zero : (ρ : Partition) (v w : View) → views.SameFile ρ v w 0
+no-zero ρ v w = file-same ρ v w 0 (zero-no ρ v ∙ sym (zero-no ρ w)) (λ i. absurd (true≢false (sym i ∙ zero-no ρ v)))
+
+module _ {d s e : ℕ} {l : List ℕ} (h : Held d s e l) (ok : sound (partitionOf d s e) (view l) ≡ true) (c : Call) (k : Proper c) where
+  abbrev π₁ : Partition
+  π₁ = partitionOf d s e
+
+  plan : Settled (partitionOf d s e) (view l) (block h c) (planned d l s c)
+  plan = settled h ok c k
+
+  lawful : Each (Lawful (partitionOf d s e) (view l)) (planned d l s c .list)
+  lawful = settled-lawful (planned d l s c) plan
+
+  pub whole-held : Held d s e (whole d s l c)
+  whole-held = held-after h (planned d l s c .list) lawful
+
+  pub whole-view : view (whole d s l c) ≡ after (planned d l s c .list) (view l)
+  whole-view = view-after h (planned d l s c .list) lawful
+
+  pub whole-ok : sound (partitionOf d s e) (view (whole d s l c)) ≡ true
+  whole-ok = ap (sound π₁) whole-view ∙ whole-sound π₁ (placed h .low) (placed h .pos) (view l) ok (block h c) (planned d l s c) plan
+
+  pub stopped-held : (n : ℕ) → Held d s e (stopped d s l c n)
+  stopped-held n = held-after h (take n (planned d l s c .list)) (each-take (Lawful π₁ (view l)) n (planned d l s c .list) lawful)
+
+  pub stopped-view : (n : ℕ) → view (stopped d s l c n) ≡ after (take n (planned d l s c .list)) (view l)
+  stopped-view n = view-after h (take n (planned d l s c .list)) (each-take (Lawful π₁ (view l)) n (planned d l s c .list) lawful)
+
+  -- the files that it does not name
+  pub unnamed : (f : ℕ) → named d s l c ≢ At f → views.SameFile (partitionOf d s e) (view l) (after (planned d l s c .list) (view l)) f
+  unnamed f n = go (eqb f (block h c)) refl
+    where
+      other : eqb f (block h c) ≡ false → views.SameFile π₁ (view l) (after (planned d l s c .list) (view l)) f
+      other q = whole-others π₁ (placed h .low) (placed h .pos) (view l) ok (block h c) (planned d l s c) plan f (eqb-false f (block h c) q)
+
+      hit : (c : Call) → named d s l c ≢ At f → f ≡ block h c → f ≡ 0
+      hit (create kind) n z = absurd (n (ap At (sym z)))
+      hit (write g r b) n z = absurd (n (ap At (sym z)))
+      hit (describe g t) n z = absurd (n (ap At (sym z)))
+      hit (destroy g) n z = absurd (n (ap At (sym z)))
+      hit repair n z = z
+
+      go : (t : Bool) → eqb f (block h c) ≡ t → views.SameFile π₁ (view l) (after (planned d l s c .list) (view l)) f
+      go true q = subst (views.SameFile π₁ (view l) (after (planned d l s c .list) (view l))) (sym (hit c n (eqb-true f (block h c) q))) (no-zero π₁ (view l) (after (planned d l s c .list) (view l)))
+      go false q = other q
+
+-- ---- whole calls, one after another
+
+pub whole-kept : {d s : ℕ} {l : List ℕ} → Sound d s l → (c : Call) → Proper c → Sound d s (whole d s l c)
+whole-kept y c k = record { end = y .end; held = whole-held (y .held) (y .is) c k; is = whole-ok (y .held) (y .is) c k }
+
+pub runs-kept : {d s : ℕ} (l : List ℕ) → Sound d s l → (cs : List Call) → AllProper cs → Sound d s (runs d s l cs)
+unfolding runs
+runs-kept l y [] k = y
+runs-kept l y (c ∷ cs) k = runs-kept _ (whole-kept y c (k .0)) cs (k .1)
+
+-- ---- repairs
+
+-- a repair of an image without a malformed candidate, and with an unowned block, makes repair's stores
+module _ {d s e : ℕ} {l : List ℕ} (h : Held d s e l) (c : Clean (partitionOf d s e) (view l)) (n : unowned (partitionOf d s e) (view l) ≢ []) where
+  abbrev π₃ : Partition
+  π₃ = partitionOf d s e
+
+  list-is : planned d l s repair .list ≡ repairStores (partitionOf d s e) (view l)
+  list-is = ap (λ (x : Planned). x .list) (repair-is h c n)
+
+  repair-each : Each (Lawful (partitionOf d s e) (view l)) (planned d l s repair .list)
+  repair-each = subst (Each (Lawful π₃ (view l))) (sym list-is) (repair-lawful (placed h))
+
+  pub cut-held : (k : ℕ) → Held d s e (stopped d s l repair k)
+  cut-held k = held-after h (take k (planned d l s repair .list)) (each-take (Lawful π₃ (view l)) k (planned d l s repair .list) repair-each)
+
+  pub cut-view : (k : ℕ) → view (stopped d s l repair k) ≡ after (take k (repairStores (partitionOf d s e) (view l))) (view l)
+  cut-view k =
+      view-after h (take k (planned d l s repair .list)) (each-take (Lawful π₃ (view l)) k (planned d l s repair .list) repair-each)
+      ∙ ap (λ (xs : List Store). after (take k xs) (view l)) list-is
+
+  pub mended-held : Held d s e (whole d s l repair)
+  mended-held = held-after h (planned d l s repair .list) repair-each
+
+  pub mended-view : view (whole d s l repair) ≡ after (repairStores (partitionOf d s e) (view l)) (view l)
+  mended-view = view-after h (planned d l s repair .list) repair-each ∙ ap (λ (xs : List Store). after xs (view l)) list-is
+
+  pub repair-done : isDone (planned d l s repair .outcome) ≡ true
+  repair-done = ap (λ (x : Planned). isDone (x .outcome)) (repair-is h c n)
+
+-- what repairs, each stopped somewhere, make of an image is what they make of its view
+pub record Reached (d s e : ℕ) (v : View) (l′ : List ℕ) : Type 0 where
+  pub held : Held d s e l′
+  pub repairs : cuts.Repairs (partitionOf d s e) v (view l′)
+
+pub reached : {d s e : ℕ} {l l′ : List ℕ} (h : Held d s e l) → Clean (partitionOf d s e) (view l) → unowned (partitionOf d s e) (view l) ≢ [] → Repairs d s l l′ → Reached d s e (view l) l′
+reached h c n none = record { held = h; repairs = cuts.none }
+reached {d} {s} {e} {l} h c n (again {m} r k) = go (reached h c n r)
+  where
+    go : Reached d s e (view l) m → Reached d s e (view l) (stopped d s m repair k)
+    go x = record {
+      held = cut-held (x .held) (y .clean) (y .spare) k;
+      repairs = subst (cuts.Repairs (partitionOf d s e) (view l)) (sym (cut-view (x .held) (y .clean) (y .spare) k)) (cuts.more (x .repairs) k);
+    }
+      where
+        y : cuts.Survives (partitionOf d s e) (view l) (view m)
+        y = survives (partitionOf d s e) (placed h .low) (placed h .pos) (view l) c n (x .repairs)
+
+-- ---- a call stopped after n stores, and repairs
+
+module _ {d s e : ℕ} {l : List ℕ} (h : Held d s e l) (ok : sound (partitionOf d s e) (view l) ≡ true) (c : Call) (p : Proper c) (n : ℕ) where
+  abbrev π₄ : Partition
+  π₄ = partitionOf d s e
+
+  abbrev xs : List Store
+  xs = planned d l s c .list
+
+  made : Bool
+  made = ltb (planned d l s c .deciding) n
+
+  -- at the view
+  outlives : {u : View} → cuts.Repairs (partitionOf d s e) (view (stopped d s l c n)) u → cuts.Survives (partitionOf d s e) (pick (ltb (planned d l s c .deciding) n) (after (planned d l s c .list) (view l)) (view l)) u
+  outlives {u} r = stopped-survives π₄ (placed h .low) (placed h .pos) (view l) ok (block h c) (planned d l s c) (plan h ok c p) n
+      (subst (λ (w : View). cuts.Repairs π₄ w u) (stopped-view h ok c p n) r)
+
+  -- at once after the stop
+  pub cut-clean : Clean (partitionOf d s e) (view (stopped d s l c n))
+  cut-clean = outlives cuts.none .clean
+
+  pub cut-spare : unowned (partitionOf d s e) (view (stopped d s l c n)) ≢ []
+  cut-spare = outlives cuts.none .spare
+
+  pub survived : (l′ : List ℕ) → Repairs d s (stopped d s l c n) l′ → Survives d s l c n l′
+  survived l′ r = record {
+    not-refused = repair-done hu (y .clean) (y .spare);
+    accepted = sound-accepted hm (ap (sound π₄) vm ∙ y .sound);
+    others = λ f q. same-file h hm f (subst (λ (w : View). views.SameFile π₄ (view l) w f) (sym vm) (file-trans (part (ltb (planned d l s c .deciding) n) f q) (y .files f)));
+    all-or-none = λ f _. choose (ltb (planned d l s c .deciding) n) f (y .files f);
+  }
+    where
+      x : Reached d s e (view (stopped d s l c n)) l′
+      x = reached (stopped-held h ok c p n) cut-clean cut-spare r
+
+      hu : Held d s e l′
+      hu = x .held
+
+      y : cuts.Survives π₄ (pick (ltb (planned d l s c .deciding) n) (after xs (view l)) (view l)) (view l′)
+      y = outlives (x .repairs)
+
+      hm : Held d s e (whole d s l′ repair)
+      hm = mended-held (x .held) (y .clean) (y .spare)
+
+      vm : view (whole d s l′ repair) ≡ after (repairStores π₄ (view l′)) (view l′)
+      vm = mended-view (x .held) (y .clean) (y .spare)
+
+      part : (t : Bool) (f : ℕ) → named d s l c ≢ At f → views.SameFile π₄ (view l) (pick t (after xs (view l)) (view l)) f
+      part true f q = unnamed h ok c p f q
+      part false f q = file-refl π₄ (view l) f
+
+      choose : (t : Bool) (f : ℕ) → views.SameFile π₄ (pick t (after xs (view l)) (view l)) (after (repairStores π₄ (view l′)) (view l′)) f → SameFile d s (pick t (whole d s l c) l) (whole d s l′ repair) f
+      choose true f q = same-file (whole-held h ok c p) hm f (subst (λ (w : View). views.SameFile π₄ w (view (whole d s l′ repair)) f) (sym (whole-view h ok c p)) (subst (λ (w : View). views.SameFile π₄ (after xs (view l)) w f) (sym vm) q))
+      choose false f q = same-file h hm f (subst (λ (w : View). views.SameFile π₄ (view l) w f) (sym vm) q)
+
+-- ---- demand 3
+
+pub demand-3 : Demand3
+demand-3 d s l b a cs ks c p k l′ r =
+    let y = runs-kept l (accepted-sound d s l b a) cs ks in
+    survived (y .held) (y .is) c p k l′ r

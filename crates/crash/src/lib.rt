@@ -1,0 +1,1 @@
+// Demand 3: one statement over images and its proof. No code.

@@ -1,0 +1,18 @@
+use mathlib.Core.Path.{sym, _∙_}
+use native.Mathlib.Omega.{arith}
+use borrow.Author.Tests.{lt-ltb, le-ltb}
+use Rattle.base.specs.Tests.{both}
+use Rattle.drive.specs.Answers.{lbnToPda, pdaToLbn, lbnToLda, ldaToLbn, lbnToFileId, fileIdToLbn}
+use Rattle.drive.specs.Laws.{hard-id, soft-id, hard-id-block, soft-id-block}
+use borrow.Author.Needs.{needs}
+use Rattle.drive.proofs.lbn_to_lda.Statement.{statement}
+use Rattle.drive.proofs.lbn_to_lda.Tie as tie
+
+returns : tie.Need-returns
+unfolding lbnToLda
+returns c = rw (← c .before .before .before .before .wide .ensures .0, ← c .before .before .before .wide2 .ensures .0, ← c .before .before .blocks2 .ensures .0, ← c .before .lda .ensures) (c .answer .ensures)
+
+pub lbn-to-lda-spec : {M : Type 1} → statement M
+lbn-to-lda-spec =
+    tie.close
+    (tie.spec (λ c κs. search needs) (λ c κs. search needs) (λ c κs. search needs) (λ c κs. search needs) (λ c κs. search needs) returns)

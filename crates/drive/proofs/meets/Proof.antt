@@ -1,0 +1,19 @@
+use mathlib.Core.Path.{sym, _∙_}
+use native.Mathlib.Omega.{arith}
+use borrow.Author.Tests.{lt-ltb, le-ltb}
+use Rattle.base.specs.Tests.{both}
+use Rattle.drive.specs.Answers.{lbnToPda, pdaToLbn, lbnToLda, ldaToLbn, lbnToFileId, fileIdToLbn}
+use Rattle.drive.specs.Laws.{hard-id, soft-id, hard-id-block, soft-id-block}
+use Rattle.drive.proofs.meets.Statement.{statement}
+use Rattle.drive.proofs.meets.Tie as tie
+
+returns : tie.Need-returns
+unfolding both
+returns c = rw (lt-ltb _ _ (c .if1 .taken))
+
+returns-2 : tie.Need-returns-2
+unfolding both
+returns-2 c = rw (le-ltb _ _ (c .if1 .left))
+
+pub meets-spec : {M : Type 1} → statement M
+meets-spec = tie.close (tie.spec returns returns-2)

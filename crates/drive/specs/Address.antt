@@ -1,0 +1,34 @@
+-- Addresses on a drive by its number. A header holds physical addresses and a file's index logical ones: the two are never compared,
+-- each is turned into a block first. Two words are one number, low word + 65536 * high word; 0 is nil.
+use Prim.Native.Nat.{ℕ}
+use Rattle.drive.specs.Code.{encode, decode}
+use Rattle.drive.specs.Rows.{onDrive, pdaCode, ldaCode, idCode}
+
+-- how many blocks a drive has
+unfoldable pub blocks : ℕ → ℕ
+blocks = onDrive (λ g. g .blocks)
+
+-- the PDA of block b, and the only block whose PDA x can be
+unfoldable pub pda : ℕ → ℕ → ℕ
+pda d b = onDrive (λ g. encode (pdaCode g) b) d
+
+unfoldable pub pdaBlock : ℕ → ℕ → ℕ
+pdaBlock d x = onDrive (λ g. decode (pdaCode g) x) d
+
+-- the LDA of block b, and the only block whose LDA x can be
+unfoldable pub lda : ℕ → ℕ → ℕ
+lda d b = onDrive (λ g. encode (ldaCode g) b) d
+
+unfoldable pub ldaBlock : ℕ → ℕ → ℕ
+ldaBlock d x = onDrive (λ g. decode (ldaCode g) x) d
+
+-- the FileID of block b, and the only block whose FileID x can be
+unfoldable pub fileId : ℕ → ℕ → ℕ
+fileId d b = onDrive (λ g. encode (idCode g) b) d
+
+unfoldable pub fileIdBlock : ℕ → ℕ → ℕ
+fileIdBlock d x = onDrive (λ g. decode (idCode g) x) d
+
+-- how many FileIDs a drive has
+unfoldable pub fileIds : ℕ → ℕ
+fileIds = onDrive (λ g. g .ids)

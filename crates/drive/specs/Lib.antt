@@ -1,0 +1,7 @@
+pub mod Rows
+pub mod Code
+pub mod Address
+pub mod Answers
+pub mod Laws
+pub mod Wording
+pub mod Fits

@@ -1,0 +1,193 @@
+// Addresses of blocks on the four drives. An address of two words is one number, low word + 65536 * high word.
+ghost use mathlib.Core.Path.{_≡_};
+ghost use Prim.Native.Nat.{_-_, _*_, _<_, _≤_};
+ghost use Rattle.drive.specs.Address.{blocks, pda, pdaBlock, lda, ldaBlock, fileId, fileIdBlock, fileIds};
+ghost use Rattle.drive.specs.Answers.{converted, lbnToPda, pdaToLbn, lbnToLda, ldaToLbn, lbnToFileId, fileIdToLbn};
+ghost use lib.Dec.{ltb, eqb};
+ghost use Rattle.base.specs.Tests.{both};
+use base::Refusal;
+
+// What a conversion answers.
+pub enum Converted {
+    Number(usize),
+    Refused(Refusal),
+}
+
+// How many blocks a drive has.
+pub fn blocks(drive: usize) -> usize
+    ensures { λ r. ⌜ (r ≡ blocks drive) × (r ≤ 69552) ⌝ }
+{
+    match drive {
+        0 => 24210,
+        1 => 48450,
+        2 => 69552,
+        _ => 432,
+    }
+}
+
+// How many blocks of a drive have a FileID.
+fn file_ids(drive: usize) -> usize
+    ensures { λ r. ⌜ r ≡ fileIds drive ⌝ }
+{
+    match drive {
+        0 => 24210,
+        1 => 48450,
+        2 => 57344,
+        _ => 432,
+    }
+}
+
+// The physical address of block b. Each drive's numbers stand here as constants, so that no division is by a variable.
+pub fn pda(drive: usize, b: usize) -> usize
+    requires { ⌜ b < 4294967296 ⌝ }
+    ensures { λ r. ⌜ r ≡ pda drive b ⌝ }
+{
+    match drive {
+        0 => (b + 30) / 30 / 4 * 256 + (b + 30) / 30 % 4 * 32 + (b + 30) % 30,
+        1 => (b + 30) / 30 / 8 * 256 + (b + 30) / 30 % 8 * 32 + (b + 30) % 30,
+        2 => (b + 48) / 24 / 5 * 65536 + (b + 48) / 24 % 5 * 256 + (b + 48) % 24,
+        _ => (b + 30) / 6 * 65536 + (b + 30) % 6 * 4 + 3,
+    }
+}
+
+// a - b, or 0.
+pub fn less(a: usize, b: usize) -> usize
+    ensures { λ r. ⌜ r ≡ a - b ⌝ }
+{
+    if b < a { a - b } else { 0 }
+}
+
+// The only block that can have the physical address x.
+pub fn pda_block(drive: usize, x: usize) -> usize
+    requires { ⌜ x < 4294967296 ⌝ }
+    ensures { λ r. ⌜ (r ≡ pdaBlock drive x) × (r < 4294967296) ⌝ }
+{
+    match drive {
+        0 => less((x / 256 * 4 + x % 256 / 32) * 30 + x % 256 % 32, 30),
+        1 => less((x / 256 * 8 + x % 256 / 32) * 30 + x % 256 % 32, 30),
+        2 => less((x / 65536 * 5 + x % 65536 / 256) * 24 + x % 65536 % 256, 48),
+        _ => less(x / 65536 * 6 + x % 65536 / 4, 30),
+    }
+}
+
+// The logical address of block b.
+pub fn lda(drive: usize, b: usize) -> usize
+    requires { ⌜ b < 4294967296 ⌝ }
+    ensures { λ r. ⌜ r ≡ lda drive b ⌝ }
+{
+    if drive < 3 {
+        (b + 12582912) * 256
+    } else {
+        (b + 14680064) * 256
+    }
+}
+
+// The only block that can have the logical address x.
+pub fn lda_block(drive: usize, x: usize) -> usize
+    ensures { λ r. ⌜ (r ≡ ldaBlock drive x) × (256 * r ≤ x) ⌝ }
+{
+    if drive < 3 {
+        less(x / 256, 12582912)
+    } else {
+        less(x / 256, 14680064)
+    }
+}
+
+fn wide(x: u32) -> usize
+    ensures { λ r. ⌜ (r ≡ x) × (r < 4294967296) ⌝ }
+{
+    x as usize
+}
+
+// x where it is good and the drive is known.
+fn answer(drive: usize, good: bool, x: usize) -> Converted
+    ensures { λ r. ⌜ r ≡ converted drive good x ⌝ }
+{
+    if 3 < drive {
+        return Converted::Refused(Refusal::BadImage);
+    }
+    if good {
+        Converted::Number(x)
+    } else {
+        Converted::Refused(Refusal::NoAddress)
+    }
+}
+
+// Whether block b, the only one that can have the address x and whose address is y, has it.
+fn meets(b: usize, count: usize, y: usize, x: usize) -> bool
+    ensures { λ r. ⌜ r ≡ both (ltb b count) (eqb y x) ⌝ }
+{
+    if b < count { y == x } else { false }
+}
+
+// LBN to physical address.
+pub fn lbn_to_pda(drive: u32, lbn: u32) -> Converted
+    ensures { λ r. ⌜ r ≡ lbnToPda drive lbn ⌝ }
+{
+    let d = wide(drive);
+    let b = wide(lbn);
+    answer(d, b < blocks(d), pda(d, b))
+}
+
+// Physical address to LBN.
+pub fn pda_to_lbn(drive: u32, address: u32) -> Converted
+    ensures { λ r. ⌜ r ≡ pdaToLbn drive address ⌝ }
+{
+    let d = wide(drive);
+    let x = wide(address);
+    let b = pda_block(d, x);
+    answer(d, meets(b, blocks(d), pda(d, b), x), b)
+}
+
+// LBN to logical address.
+pub fn lbn_to_lda(drive: u32, lbn: u32) -> Converted
+    ensures { λ r. ⌜ r ≡ lbnToLda drive lbn ⌝ }
+{
+    let d = wide(drive);
+    let b = wide(lbn);
+    answer(d, b < blocks(d), lda(d, b))
+}
+
+// Logical address to LBN.
+pub fn lda_to_lbn(drive: u32, address: u32) -> Converted
+    ensures { λ r. ⌜ r ≡ ldaToLbn drive address ⌝ }
+{
+    let d = wide(drive);
+    let x = wide(address);
+    let b = lda_block(d, x);
+    answer(d, meets(b, blocks(d), lda(d, b), x), b)
+}
+
+// The FileID of block b.
+fn file_id(drive: usize, b: usize) -> usize
+    requires { ⌜ b < 4294967296 ⌝ }
+    ensures { λ r. ⌜ r ≡ fileId drive b ⌝ }
+{
+    if drive < 3 { b } else { b + 57344 }
+}
+
+// The only block that can have the FileID x.
+fn file_id_block(drive: usize, x: usize) -> usize
+    ensures { λ r. ⌜ (r ≡ fileIdBlock drive x) × (r ≤ x) ⌝ }
+{
+    if drive < 3 { x } else { less(x, 57344) }
+}
+
+// LBN to FileID.
+pub fn lbn_to_fileid(drive: u32, lbn: u32) -> Converted
+    ensures { λ r. ⌜ r ≡ lbnToFileId drive lbn ⌝ }
+{
+    let d = wide(drive);
+    let b = wide(lbn);
+    answer(d, b < file_ids(d), file_id(d, b))
+}
+
+// FileID to LBN.
+pub fn fileid_to_lbn(drive: u32, id: u32) -> Converted
+    ensures { λ r. ⌜ r ≡ fileIdToLbn drive id ⌝ }
+{
+    let d = wide(drive);
+    let x = wide(id);
+    let b = file_id_block(d, x);
+    answer(d, meets(b, file_ids(d), file_id(d, b), x), b)
+}

@@ -1,0 +1,261 @@
+-- The free chain that repair builds is walked as the ascending list of the unowned blocks.
+use mathlib.Core.Path.{_≡_, refl, sym, ap, ap₂, _∙_, subst, fun-ext}
+use mathlib.Core.Logic.{_⊎_, inl, inr, _≢_}
+use mathlib.Core.List.{List, [], _∷_, _++_}
+use mathlib.Core.Bool.{Bool, true, false, not, _&&_, _||_}
+use Prim.Native.Nat.{ℕ, zero, suc, _+_, _-_, _*_, _/_, _%_, _≤_, _<_}
+use native.Mathlib.Omega.{arith}
+use native.Mathlib.Nat.{not-suc-le-zero}
+use lib.Dec.{leb, ltb, eqb}
+use lib.ListN.{length}
+use borrow.Author.Tests.{ltb-true, ltb-false, eqb-true, eqb-false, lt-ltb, le-ltb, eq-eqb, ne-eqb, le-leb}
+use Rattle.base.specs.Tests.{pick, both, every, all, count, those, occ, headOf, lastOf, above, below}
+use Rattle.drive.specs.Address.{pda, pdaBlock, lda, ldaBlock}
+use Rattle.drive.specs.Laws.{pda-back, pda-pos}
+use Rattle.image.specs.View.{upd-same, upd-other, View, Rec, pair}
+use Rattle.base.specs.Laws.{pick-same, both-of}
+use Rattle.volume.specs.Files.{Partition, isLda, blockAt, ptrIndex, ptrSlot, chain, chained, orNil, within, inside}
+
+module _ (P : ℕ → Bool) where
+  -- the list begins with i, or goes on
+  those-step : (i k : ℕ) (t : Bool) → P i ≡ t → those i (suc k) P ≡ pick t (i ∷ those (suc i) k P) (those (suc i) k P)
+  unfolding those
+  those-step i k t q = ap (λ (u : Bool). pick u (i ∷ those (suc i) k P) (those (suc i) k P)) q
+
+  above-all : (b i k : ℕ) → b < i → above b (those i k P) ≡ headOf 0 (those i k P)
+  unfolding above headOf those
+  above-all b i zero h = refl
+  above-all b i (suc k) h = go (P i) (above-all b (suc i) k (omega arith))
+    where
+      go : (t : Bool) → above b (those (suc i) k P) ≡ headOf 0 (those (suc i) k P)
+          → above b (pick t (i ∷ those (suc i) k P) (those (suc i) k P)) ≡ headOf 0 (pick t (i ∷ those (suc i) k P) (those (suc i) k P))
+      go true ih = ap (λ (u : Bool). pick u i (above b (those (suc i) k P))) (lt-ltb b i h)
+      go false ih = ih
+
+  -- the first above b: the first of those after b
+  pub above-those : (b i k : ℕ) → i ≤ b → b < i + k → above b (those i k P) ≡ headOf 0 (those (suc b) (i + k - suc b) P)
+  unfolding above headOf those
+  above-those b i zero l h = absurd (omega arith)
+  above-those b i (suc k) l h = go (P i) ∙ pickb (eqb b i) refl (λ m. above-those b (suc i) k m (omega arith))
+    where
+      go : (t : Bool) → above b (pick t (i ∷ those (suc i) k P) (those (suc i) k P)) ≡ above b (those (suc i) k P)
+      go true = ap (λ (u : Bool). pick u i (above b (those (suc i) k P))) (le-ltb b i l)
+      go false = refl
+
+      pickb : (t : Bool) → eqb b i ≡ t → (suc i ≤ b → above b (those (suc i) k P) ≡ headOf 0 (those (suc b) (suc i + k - suc b) P))
+          → above b (those (suc i) k P) ≡ headOf 0 (those (suc b) (i + suc k - suc b) P)
+      pickb true q ih =
+          let z = eqb-true b i q in
+          above-all b (suc i) k (omega arith) ∙ ap₂ (λ (x y : ℕ). headOf 0 (those (suc x) y P)) (sym z) (let w : k ≡ i + suc k - suc b = omega arith in w)
+      pickb false q ih =
+          let z = eqb-false b i q in
+          ih (omega arith) ∙ ap (λ (y : ℕ). headOf 0 (those (suc b) y P)) (let w : suc i + k - suc b ≡ i + suc k - suc b = omega arith in w)
+
+  pub head-least : (i k : ℕ) → (headOf 0 (those i k P) ≡ 0) ⊎ (i ≤ headOf 0 (those i k P))
+  unfolding headOf those
+  head-least i zero = inl refl
+  head-least i (suc k) = go (P i) (head-least (suc i) k)
+    where
+      go : (t : Bool) → (headOf 0 (those (suc i) k P) ≡ 0) ⊎ (suc i ≤ headOf 0 (those (suc i) k P))
+          → (headOf 0 (pick t (i ∷ those (suc i) k P) (those (suc i) k P)) ≡ 0) ⊎ (i ≤ headOf 0 (pick t (i ∷ those (suc i) k P) (those (suc i) k P)))
+      go true ih = inr (omega arith)
+      go false (inl z) = inl z
+      go false (inr z) = inr (omega arith)
+
+  pub head-most : (i k : ℕ) → headOf 0 (those i k P) ≤ i + k
+  unfolding headOf those
+  head-most i zero = omega arith
+  head-most i (suc k) = go (P i) (head-most (suc i) k)
+    where
+      go : (t : Bool) → headOf 0 (those (suc i) k P) ≤ suc i + k → headOf 0 (pick t (i ∷ those (suc i) k P) (those (suc i) k P)) ≤ i + suc k
+      go true ih = omega arith
+      go false ih = omega arith
+
+  pub occ-low : (b i k : ℕ) → b < i → occ b (those i k P) ≡ 0
+  unfolding occ those
+  occ-low b i zero h = refl
+  occ-low b i (suc k) h = go (P i) (occ-low b (suc i) k (omega arith))
+    where
+      go : (t : Bool) → occ b (those (suc i) k P) ≡ 0 → occ b (pick t (i ∷ those (suc i) k P) (those (suc i) k P)) ≡ 0
+      go true ih = ap₂ (λ (u : Bool) (n : ℕ). pick u 1 0 + n) (ne-eqb b i (λ z. omega arith)) ih
+      go false ih = ih
+
+  pub occ-in : (b i k : ℕ) → i ≤ b → b < i + k → occ b (those i k P) ≡ pick (P b) 1 0
+  unfolding occ those
+  occ-in b i zero l h = absurd (omega arith)
+  occ-in b i (suc k) l h = go (eqb b i) refl (P i) refl (λ m. occ-in b (suc i) k m (omega arith))
+    where
+      go : (u : Bool) → eqb b i ≡ u → (t : Bool) → P i ≡ t → (suc i ≤ b → occ b (those (suc i) k P) ≡ pick (P b) 1 0)
+          → occ b (pick t (i ∷ those (suc i) k P) (those (suc i) k P)) ≡ pick (P b) 1 0
+      go true q true r ih =
+          ap₂ (λ (u : Bool) (n : ℕ). pick u 1 0 + n) q (occ-low b (suc i) k (omega (arith, eqb-true b i q)))
+          ∙ ap (λ (u : Bool). pick u 1 0) (sym r ∙ ap P (sym (eqb-true b i q)))
+      go true q false r ih = occ-low b (suc i) k (omega (arith, eqb-true b i q)) ∙ ap (λ (u : Bool). pick u 1 0) (sym r ∙ ap P (sym (eqb-true b i q)))
+      go false q true r ih = ap₂ (λ (u : Bool) (n : ℕ). pick u 1 0 + n) q (ih (omega (arith, eqb-false b i q))) ∙ omega arith
+      go false q false r ih = ih (omega (arith, eqb-false b i q))
+
+  pub head-zero : (i k : ℕ) → 0 < i → headOf 0 (those i k P) ≡ 0 → those i k P ≡ []
+  unfolding headOf those
+  head-zero i zero p h = refl
+  head-zero i (suc k) p h = go (P i) h (head-zero (suc i) k (omega arith))
+    where
+      go : (t : Bool) → headOf 0 (pick t (i ∷ those (suc i) k P) (those (suc i) k P)) ≡ 0 → (headOf 0 (those (suc i) k P) ≡ 0 → those (suc i) k P ≡ []) → pick t (i ∷ those (suc i) k P) (those (suc i) k P) ≡ []
+      go true q ih = absurd (omega arith)
+      go false q ih = ih q
+
+  -- ---- the walk
+
+  module _ (π : Partition) (u : View) where
+    -- each block that passes points to the next that does
+    abbrev pub Next : ℕ → ℕ → Type 0
+    Next i k = (b : ℕ) → i ≤ b → b < i + k → P b ≡ true → pair u b 4 ≡ orNil π (headOf 0 (those (suc b) (i + k - suc b) P))
+
+    next-down : (i k : ℕ) → Next i (suc k) → Next (suc i) k
+    next-down i k h b l m q = h b (omega arith) (omega arith) q ∙ ap (λ (y : ℕ). orNil π (headOf 0 (those (suc b) y P))) (let w : i + suc k - suc b ≡ suc i + k - suc b = omega arith in w)
+
+    pub chain-end : (fuel b : ℕ) → pair u b 4 ≡ 0 → chain π u (suc fuel) b ≡ b ∷ []
+    unfolding chain
+    chain-end fuel b q = ap (λ (t : Bool). let r : List ℕ = elim t [ true ↦ [] | false ↦ chain π u fuel (pdaBlock (π .drive) (pair u b 4)) ] in b ∷ r) (eq-eqb _ _ q)
+
+    pub chain-on : (fuel b c : ℕ) → pair u b 4 ≡ pda (π .drive) c → chain π u (suc fuel) b ≡ b ∷ chain π u fuel c
+    unfolding chain
+    chain-on fuel b c q =
+        ap (λ (t : Bool). let r : List ℕ = elim t [ true ↦ [] | false ↦ chain π u fuel (pdaBlock (π .drive) (pair u b 4)) ] in b ∷ r) (ne-eqb (pair u b 4) 0 (λ z. omega (arith, pda-pos (π .drive) c, q)))
+        ∙ ap (λ (x : ℕ). b ∷ chain π u fuel (pdaBlock (π .drive) x)) q ∙ ap (λ (x : ℕ). b ∷ chain π u fuel x) (pda-back (π .drive) c)
+
+    pub walk : (i k fuel : ℕ) → 0 < i → k ≤ fuel → Next i k → those i k P ≢ [] → chain π u fuel (headOf 0 (those i k P)) ≡ those i k P
+    unfolding those headOf
+    walk i zero fuel p l h n = absurd (n refl)
+    walk i (suc k) zero p l h n = absurd (omega arith)
+    walk i (suc k) (suc fuel) p l h n = go (P i) refl n (walk (suc i) k fuel (omega arith) (omega arith) (next-down i k h)) (walk (suc i) k (suc fuel) (omega arith) (omega arith) (next-down i k h))
+      where
+        R : List ℕ
+        R = those (suc i) k P
+
+        go : (t : Bool) → P i ≡ t → pick t (i ∷ R) R ≢ [] → (R ≢ [] → chain π u fuel (headOf 0 R) ≡ R) → (R ≢ [] → chain π u (suc fuel) (headOf 0 R) ≡ R)
+            → chain π u (suc fuel) (headOf 0 (pick t (i ∷ R) R)) ≡ pick t (i ∷ R) R
+        go true q ne ih ih′ = on (eqb (headOf 0 R) 0) refl
+          where
+            hx : pair u i 4 ≡ orNil π (headOf 0 R)
+            hx = h i (omega arith) (omega arith) q ∙ ap (λ (y : ℕ). orNil π (headOf 0 (those (suc i) y P))) (let w : i + suc k - suc i ≡ k = omega arith in w)
+
+            on : (z : Bool) → eqb (headOf 0 R) 0 ≡ z → chain π u (suc fuel) i ≡ i ∷ R
+            on true z =
+                chain-end fuel i (hx ∙ ap (λ (t : Bool). pick t 0 (pda (π .drive) (headOf 0 R))) z)
+                ∙ ap (λ (l : List ℕ). i ∷ l) (sym (head-zero (suc i) k (omega arith) (eqb-true _ _ z)))
+            on false z =
+                chain-on fuel i (headOf 0 R) (hx ∙ ap (λ (t : Bool). pick t 0 (pda (π .drive) (headOf 0 R))) z)
+                ∙ ap (λ (l : List ℕ). i ∷ l) (ih (λ w. eqb-false (headOf 0 R) 0 z (ap (headOf 0) w)))
+        go false q ne ih ih′ = ih′ ne
+
+    abbrev pub Prev : ℕ → ℕ → ℕ → Type 0
+    Prev before i k = (b : ℕ) → i ≤ b → b < i + k → P b ≡ true → pair u b 6 ≡ orNil π (lastOf before (those i (b - i) P))
+
+    pub chained-those : (before i k : ℕ) → Next i k → Prev before i k → chained π u before (those i k P) ≡ true
+    unfolding those chained lastOf
+    chained-those before i zero h g = refl
+    chained-those before i (suc k) h g =
+        go (P i) refl (λ q. chained-those i (suc i) k (next-down i k h) (λ b l m r. g b (omega arith) (omega arith) r ∙ ap (orNil π) (last-step b l true q)))
+        (λ q. chained-those before (suc i) k (next-down i k h) (λ b l m r. g b (omega arith) (omega arith) r ∙ ap (orNil π) (last-step b l false q)))
+      where
+        R : List ℕ
+        R = those (suc i) k P
+
+        last-step : (b : ℕ) → suc i ≤ b → (t : Bool) → P i ≡ t → lastOf before (those i (b - i) P) ≡ lastOf (pick t i before) (those (suc i) (b - suc i) P)
+        last-step b l t q =
+            ap (λ (n : ℕ). lastOf before (those i n P)) (let w : b - i ≡ suc (b - suc i) = omega arith in w)
+            ∙ ap (λ (x : Bool). lastOf before (pick x (i ∷ those (suc i) (b - suc i) P) (those (suc i) (b - suc i) P))) q ∙ split t
+          where
+            split : (t : Bool) → lastOf before (pick t (i ∷ those (suc i) (b - suc i) P) (those (suc i) (b - suc i) P)) ≡ lastOf (pick t i before) (those (suc i) (b - suc i) P)
+            split true = refl
+            split false = refl
+
+        go : (t : Bool) → P i ≡ t → (P i ≡ true → chained π u i R ≡ true) → (P i ≡ false → chained π u before R ≡ true) → chained π u before (pick t (i ∷ R) R) ≡ true
+        go true q a b =
+            both-of (eq-eqb _ _ (g i (omega arith) (omega arith) q ∙ ap (λ (n : ℕ). orNil π (lastOf before (those i n P))) (let w : i - i ≡ 0 = omega arith in w)))
+            (both-of (eq-eqb _ _ (h i (omega arith) (omega arith) q ∙ ap (λ (n : ℕ). orNil π (headOf 0 (those (suc i) n P))) (let w : i + suc k - suc i ≡ k = omega arith in w))) (a q))
+        go false q a b = b q
+
+  below-none : (b i k : ℕ) → b ≤ i → below b (those i k P) ≡ 0
+  unfolding below those
+  below-none b i zero h = refl
+  below-none b i (suc k) h = go (P i) (below-none b (suc i) k (omega arith))
+    where
+      go : (t : Bool) → below b (those (suc i) k P) ≡ 0 → below b (pick t (i ∷ those (suc i) k P) (those (suc i) k P)) ≡ 0
+      go true ih = ap (λ (x : Bool). pick x (let r = below b (those (suc i) k P) in pick (eqb r 0) i r) 0) (le-ltb i b h)
+      go false ih = ih
+
+  last-pos : (x i k : ℕ) → 0 < x → 0 < i → 0 < lastOf x (those i k P)
+  unfolding lastOf those
+  last-pos x i zero h p = h
+  last-pos x i (suc k) h p = go (P i) (last-pos i (suc i) k p (omega arith)) (last-pos x (suc i) k h (omega arith))
+    where
+      go : (t : Bool) → 0 < lastOf i (those (suc i) k P) → 0 < lastOf x (those (suc i) k P) → 0 < lastOf x (pick t (i ∷ those (suc i) k P) (those (suc i) k P))
+      go true a b = a
+      go false a b = b
+
+  last-or : (x i k : ℕ) → 0 < i → pick (eqb (lastOf 0 (those i k P)) 0) x (lastOf 0 (those i k P)) ≡ lastOf x (those i k P)
+  unfolding lastOf those
+  last-or x i zero p = refl
+  last-or x i (suc k) p = go (P i) (last-or x (suc i) k (omega arith))
+    where
+      R : List ℕ
+      R = those (suc i) k P
+
+      go : (t : Bool) → pick (eqb (lastOf 0 R) 0) x (lastOf 0 R) ≡ lastOf x R → pick (eqb (lastOf 0 (pick t (i ∷ R) R)) 0) x (lastOf 0 (pick t (i ∷ R) R)) ≡ lastOf x (pick t (i ∷ R) R)
+      go true ih = ap (λ (z : Bool). pick z x (lastOf i R)) (ne-eqb (lastOf i R) 0 (λ z. omega (arith, last-pos i (suc i) k p (omega arith))))
+      go false ih = ih
+
+  pub below-those : (b i k : ℕ) → 0 < i → i ≤ b → b ≤ i + k → below b (those i k P) ≡ lastOf 0 (those i (b - i) P)
+  unfolding below those lastOf
+  below-those b i zero p l h = ap (λ (n : ℕ). lastOf 0 (those i n P)) (let w : 0 ≡ b - i = omega arith in w)
+  below-those b i (suc k) p l h = pickb (eqb b i) refl (λ m. below-those b (suc i) k (omega arith) m (omega arith))
+    where
+      R : List ℕ
+      R = those (suc i) k P
+
+      L : List ℕ
+      L = those (suc i) (b - suc i) P
+
+      go : (t : Bool) → i < b → below b R ≡ lastOf 0 L → below b (pick t (i ∷ R) R) ≡ lastOf 0 (pick t (i ∷ L) L)
+      go true m ih =
+          ap (λ (x : Bool). pick x (let r = below b R in pick (eqb r 0) i r) 0) (lt-ltb i b m)
+          ∙ ap (λ (r : ℕ). pick (eqb r 0) i r) ih ∙ last-or i (suc i) (b - suc i) (omega arith)
+      go false m ih = ih
+
+      pickb : (t : Bool) → eqb b i ≡ t → (suc i ≤ b → below b R ≡ lastOf 0 L) → below b (pick (P i) (i ∷ R) R) ≡ lastOf 0 (those i (b - i) P)
+      pickb true q ih =
+          below-none b i (suc k) (omega (arith, eqb-true b i q))
+          ∙ ap (λ (n : ℕ). lastOf 0 (those i n P)) (let z = eqb-true b i q in let w : 0 ≡ b - i = omega arith in w)
+      pickb false q ih =
+          let z = eqb-false b i q in
+          go (P i) (omega arith) (ih (omega arith)) ∙ ap (λ (n : ℕ). lastOf 0 (those i n P)) (let w : suc (b - suc i) ≡ b - i = omega arith in w)
+
+  pub within-those : (π : Partition) (i k : ℕ) → π .s < i → i + k ≤ suc (π .e) → within π (those i k P) ≡ true
+  unfolding within those inside
+  within-those π i zero h l = refl
+  within-those π i (suc k) h l = go (P i) (within-those π (suc i) k (omega arith) (omega arith))
+    where
+      go : (t : Bool) → within π (those (suc i) k P) ≡ true → within π (pick t (i ∷ those (suc i) k P) (those (suc i) k P)) ≡ true
+      go true ih = both-of (both-of (lt-ltb (π .s) i h) (le-leb i (π .e) (omega arith))) ih
+      go false ih = ih
+
+  -- ---- how many
+
+  count-low : (Q : ℕ → Bool) (k : ℕ) → count (suc k) Q ≡ pick (Q 0) 1 0 + count k (λ i. Q (suc i))
+  unfolding count
+  count-low Q zero = refl
+  count-low Q (suc k) = ap (λ (n : ℕ). pick (Q (suc k)) 1 0 + n) (count-low Q k) ∙ omega arith
+
+  pub length-those : (i k : ℕ) → length (those i k P) ≡ count k (λ j. P (i + j))
+  unfolding those count
+  length-those i zero = refl
+  length-those i (suc k) =
+      go (P i)
+      ∙ ap₂ (λ (x y : ℕ). x + y) (ap (λ (n : ℕ). pick (P n) 1 0) (let w : i ≡ i + 0 = omega arith in w))
+      (length-those (suc i) k ∙ ap (count k) (fun-ext (λ j. ap P (let w : suc i + j ≡ i + suc j = omega arith in w))))
+      ∙ sym (count-low (λ j. P (i + j)) k)
+    where
+      go : (t : Bool) → length (pick t (i ∷ those (suc i) k P) (those (suc i) k P)) ≡ pick t 1 0 + length (those (suc i) k P)
+      go true = omega arith
+      go false = omega arith

@@ -1,0 +1,205 @@
+-- A run of stores: what holds of every block's record before, and of every record stored, holds after.
+use mathlib.Core.Path.{_≡_, refl, sym, ap, ap₂, _∙_, subst, fun-ext}
+use mathlib.Core.Logic.{_⊎_, inl, inr, _≢_}
+use mathlib.Core.List.{List, [], _∷_, _++_}
+use mathlib.Core.Bool.{Bool, true, false, not, _&&_, _||_, true≢false}
+use Prim.Native.Nat.{ℕ, zero, suc, _+_, _-_, _*_, _/_, _%_, _≤_, _<_}
+use native.Mathlib.Omega.{arith}
+use lib.Dec.{leb, ltb, eqb}
+use lib.ListN.{take, length, getD}
+use borrow.Author.Tests.{ltb-true, ltb-false, eqb-true, eqb-false, lt-ltb, le-ltb, eq-eqb, ne-eqb, le-leb, lt-leb, leb-true}
+use Rattle.base.specs.Tests.{pick, both, every, all, count, those, tabFrom, headOf, lastOf, above, below, occ}
+use Rattle.drive.specs.Address.{pda, pdaBlock, lda, ldaBlock}
+use Rattle.drive.specs.Laws.{pda-back, lda-back, pda-pos}
+use Rattle.image.specs.View.{upd-same, upd-other, View, Rec, Store, after, upd, pair, put, put2}
+use Rattle.base.specs.Laws.{cons-same, and-left, and-right, and-both, all-at, all-of, all-same, pick-same, every-at, both-left, both-right, both-of, iff-eq}
+use Rattle.volume.specs.Files.{unowned, Partition, isLda, blockAt, ptrIndex, ptrSlot, inside, serial, candidate, len, ptrsFor, ptrs, indirect, ptr, entry, name, names, nth, size, wellFormed, isFile, placeOf, place, fileOf, owned, files, nextOf, prevOf, orNil, free, freeHead, chain, chained, linked, sound, within}
+use Rattle.volume.specs.Frame.{SameHead, same-serial, head-of, head-trans, Shape, Kept, kept-len, kept-ptrs, kept-ptr, kept-indirect, kept-entry, kept-nth, kept-size, kept-name, kept-head, kept-wellFormed}
+use Rattle.volume.specs.Owned.{Own, own, owned-by, member, member-owned, file-back, place-back, few-ptrs, Member, nth-fib, nth-ptr, nth-data, ptr-in, fib-in, data-in, owned-in, owned-not-pib}
+use Rattle.volume.specs.Agree.{Clean, Alike, Agree, alike, agree-file, agree-files, agree-clean, agree-owned, agree-unowned, agree-place, agree-fileOf, agree-head}
+use lib.Seq.{take-append-le}
+use Rattle.volume.specs.Plans.{st}
+use Rattle.frame.specs.Soft.{headed, headed-is, headed-same, cand-in, Soft, Quiet, soft-refl, soft-agree, soft-kept}
+
+-- P holds of each store's block and record
+abbrev pub Each : (ℕ → Rec → Type 0) → List Store → Type 0
+Each P [] = Unit {0}
+Each P (x ∷ xs) = P (x .at) (x .rec) × Each P xs
+
+module _ (P : ℕ → Rec → Type 0) where
+  pub each-append : (xs ys : List Store) → Each P xs → Each P ys → Each P (xs ++ ys)
+  each-append [] ys h k = k
+  each-append (x ∷ xs) ys h k = (h .0, each-append xs ys (h .1) k)
+
+  pub each-pick : (t : Bool) (xs ys : List Store) → (t ≡ true → Each P xs) → (t ≡ false → Each P ys) → Each P (pick t xs ys)
+  each-pick true xs ys h k = h refl
+  each-pick false xs ys h k = k refl
+
+  pub each-take : (k : ℕ) (xs : List Store) → Each P xs → Each P (take k xs)
+  each-take zero xs h = tt
+  each-take (suc k) [] h = tt
+  each-take (suc k) (x ∷ xs) h = (h .0, each-take k xs (h .1))
+
+  pub after-each : (xs : List Store) (v : View) → Each P xs → ((b : ℕ) → P b (v b)) → (b : ℕ) → P b (after xs v b)
+  unfolding after
+  after-each [] v h k b = k b
+  after-each (x ∷ xs) v h k b = after-each xs (upd v (x .at) (x .rec)) (h .1) (λ c. go c (eqb c (x .at)) refl) b
+    where
+      go : (c : ℕ) (t : Bool) → eqb c (x .at) ≡ t → P c (pick t (x .rec) (v c))
+      go c true q = subst (λ (y : ℕ). P y (x .rec)) (sym (eqb-true c (x .at) q)) (h .0)
+      go c false q = k c
+
+-- a block that no store names keeps its record
+pub after-miss : (xs : List Store) (v : View) (b : ℕ) → Each (λ c _. c ≢ b) xs → after xs v b ≡ v b
+after-miss xs v b h = after-each (λ c r. c ≡ b → r ≡ v b) xs v (go xs h) (λ c q. ap v q) b refl
+  where
+    go : (xs : List Store) → Each (λ c _. c ≢ b) xs → Each (λ c r. c ≡ b → r ≡ v b) xs
+    go [] h = tt
+    go (x ∷ xs) h = ((λ q. absurd (h .0 q)), go xs (h .1))
+
+pub after-append : (xs ys : List Store) (v : View) → after (xs ++ ys) v ≡ after ys (after xs v)
+unfolding after
+after-append [] ys v = refl
+after-append (x ∷ xs) ys v = after-append xs ys (upd v (x .at) (x .rec))
+
+-- a run cut within its first part, or after it
+pub cut-early : (k : ℕ) (xs ys : List Store) → k ≤ length xs → take k (xs ++ ys) ≡ take k xs
+cut-early k xs ys h = take-append-le k xs ys h
+
+pub cut-late : (k : ℕ) (xs ys : List Store) → length xs ≤ k → take k (xs ++ ys) ≡ xs ++ take (k - length xs) ys
+cut-late k [] ys h = ap (λ (n : ℕ). take n ys) (let z : k ≡ k - 0 = omega arith in z)
+cut-late zero (x ∷ xs) ys h = absurd (omega arith)
+cut-late (suc k) (x ∷ xs) ys h = ap (λ (l : List Store). x ∷ l) (cut-late k xs ys (omega arith)) ∙ ap (λ (n : ℕ). x ∷ (xs ++ take n ys)) (let z : k - length xs ≡ suc k - length (x ∷ xs) = omega arith in z)
+
+module _ (π : Partition) (v : View) where
+  -- a store that changes no file
+  abbrev pub Calm : ℕ → Rec → Type 0
+  Calm b r = inside π b ≡ true → Quiet π v b r
+
+  pub calm-soft : {b : ℕ} {r : Rec} → Soft π v b r → Calm b r
+  calm-soft h _ = inl h
+
+  pub calm-free : {b : ℕ} {r : Rec} → owned π v b ≡ false → headed π b r ≡ false → Calm b r
+  calm-free h k _ = inr (h, k)
+
+  pub calm-pib : {r : Rec} → Calm (π .s) r
+  unfolding inside
+  calm-pib i = absurd (omega (arith, ltb-true (π .s) (π .s) (both-left _ _ i)))
+
+  pub calm-agree : Clean π v → (xs : List Store) → Each Calm xs → Agree π v (after xs v)
+  calm-agree c xs h = soft-agree π v c (after xs v) (after-each Calm xs v h (λ b. calm-soft (soft-refl π v b refl)))
+
+  -- ---- a change of one file: the others are kept
+  pub record Turn (v′ : View) (f : ℕ) : Type 0 where
+    pub others : (g : ℕ) → g ≢ f → candidate π v g ≡ true → Kept π v v′ g
+    pub cands : (g : ℕ) → g ≢ f → candidate π v g ≡ candidate π v′ g
+
+  -- a store that changes no file but f
+  abbrev pub Mine : ℕ → ℕ → Rec → Type 0
+  Mine f b r = inside π b ≡ true → Soft π v b r ⊎ ((owned π v b ≡ true → fileOf π v b ≡ f) × (b ≢ f → headed π b r ≡ false))
+
+  pub mine-calm : (f b : ℕ) (r : Rec) → Calm b r → Mine f b r
+  mine-calm f b r h i = go (h i)
+    where
+      go : Quiet π v b r → Soft π v b r ⊎ ((owned π v b ≡ true → fileOf π v b ≡ f) × (b ≢ f → headed π b r ≡ false))
+      go (inl x) = inl x
+      go (inr x) = inr ((λ o. absurd (true≢false (sym o ∙ x .0))), λ _. x .1)
+
+module _ (π : Partition) (v : View) (c : Clean π v) where
+  module _ (v′ : View) (f : ℕ) where
+    pub turn-of : ((b : ℕ) → Mine π v f b (v′ b)) → Turn π v v′ f
+    turn-of m = record { others = others; cands = cands }
+      where
+        soft : (g : ℕ) → g ≢ f → (b : ℕ) → owned π v b ≡ true → fileOf π v b ≡ g → Soft π v b (v′ b)
+        soft g n b o q = go (m b (owned-in π v b o))
+          where
+            go : Soft π v b (v′ b) ⊎ ((owned π v b ≡ true → fileOf π v b ≡ f) × (b ≢ f → headed π b (v′ b) ≡ false)) → Soft π v b (v′ b)
+            go (inl x) = x
+            go (inr x) = absurd (n (sym q ∙ x .0 o))
+
+        at : (g : ℕ) → g ≢ f → (h : candidate π v g ≡ true) → (i : ℕ) → i < size π v g → Soft π v (nth π v g i) (v′ (nth π v g i))
+        at g n h i l = soft g n _ (member-owned π v g h (c g h) i l) (file-back π v g h (c g h) i l)
+
+        others : (g : ℕ) → g ≢ f → candidate π v g ≡ true → Kept π v v′ g
+        others g n h = soft-kept π v g h (c g h) v′ (at g n h)
+
+        same : (g : ℕ) → SameHead (v g) (v′ g) → candidate π v g ≡ candidate π v′ g
+        same g h = headed-is π v g ∙ headed-same π g h ∙ sym (headed-is π v′ g)
+
+        cands : (g : ℕ) → g ≢ f → candidate π v g ≡ candidate π v′ g
+        cands g n = iff-eq _ _ (λ h. sym (same g (others g n h .shape .head)) ∙ h) (λ h. go h (m g (cand-in π v′ g h)))
+          where
+            go : candidate π v′ g ≡ true → Soft π v g (v′ g) ⊎ ((owned π v g ≡ true → fileOf π v g ≡ f) × (g ≢ f → headed π g (v′ g) ≡ false)) → candidate π v g ≡ true
+            go h (inl x) = same g (x .head) ∙ h
+            go h (inr x) = absurd (true≢false (sym h ∙ headed-is π v′ g ∙ x .1 n))
+
+    -- f of the same form takes no block
+    pub turn-left : (t : Turn π v v′ f) → candidate π v f ≡ true → (k : Shape π v v′ f) → (b : ℕ) → owned π v b ≡ false → (i : ℕ) → i < size π v′ f → nth π v′ f i ≢ b
+    turn-left t h k b o i l z =
+        let m = subst (λ (n : ℕ). i < n) (sym (kept-size π v v′ f k)) l in
+        true≢false (sym (member-owned π v f h (c f h) i m) ∙ ap (owned π v) (kept-nth π v v′ f k i m ∙ z) ∙ o)
+
+    module _ (t : Turn π v v′ f) (w : candidate π v′ f ≡ true → wellFormed π v′ f ≡ true) where
+      pub turn-clean : Clean π v′
+      turn-clean g h = go (eqb g f) refl
+        where
+          go : (x : Bool) → eqb g f ≡ x → wellFormed π v′ g ≡ true
+          go true q = subst (λ (y : ℕ). wellFormed π v′ y ≡ true) (sym (eqb-true g f q)) (w (subst (λ (y : ℕ). candidate π v′ y ≡ true) (eqb-true g f q) h))
+          go false q =
+              let n = eqb-false g f q in
+              let k = t .cands g n ∙ h in
+              sym (kept-wellFormed π v v′ g (t .others g n k .shape)) ∙ c g k
+
+      -- an unowned block that f does not take stays unowned
+      pub turn-free : (b : ℕ) → owned π v b ≡ false → (candidate π v′ f ≡ true → (i : ℕ) → i < size π v′ f → nth π v′ f i ≢ b) → owned π v′ b ≡ false
+      unfolding isFile
+      turn-free b o m = go (owned π v′ b) refl
+        where
+          no : owned π v′ b ≡ true → (x : Bool) → eqb (fileOf π v′ b) f ≡ x → ⊥
+          no p true q =
+              let w = own π v′ b p in
+              let z = eqb-true (fileOf π v′ b) f q in
+              m (subst (λ (y : ℕ). candidate π v′ y ≡ true) z (both-left _ _ (w .file))) (place π v′ b)
+              (subst (λ (y : ℕ). place π v′ b < size π v′ y) z (w .here)) (ap (λ (y : ℕ). nth π v′ y (place π v′ b)) (sym z) ∙ w .back)
+          no p false q = true≢false (sym (subst (λ (y : ℕ). owned π v y ≡ true) (kept-nth π v v′ g k i l ∙ u .back) (member-owned π v g c₀ (c g c₀) i l)) ∙ o)
+            where
+              g : ℕ
+              g = fileOf π v′ b
+
+              i : ℕ
+              i = place π v′ b
+
+              u : Own π v′ b (fileOf π v′ b) (place π v′ b)
+              u = own π v′ b p
+
+              n : fileOf π v′ b ≢ f
+              n = eqb-false (fileOf π v′ b) f q
+
+              c₀ : candidate π v (fileOf π v′ b) ≡ true
+              c₀ = t .cands _ n ∙ both-left _ _ (u .file)
+
+              k : Shape π v v′ (fileOf π v′ b)
+              k = t .others _ n c₀ .shape
+
+              l : place π v′ b < size π v (fileOf π v′ b)
+              l = subst (λ (y : ℕ). place π v′ b < y) (sym (kept-size π v v′ _ k)) (u .here)
+
+          go : (x : Bool) → owned π v′ b ≡ x → x ≡ false
+          go true p = absurd (no p _ refl)
+          go false p = refl
+
+-- a deciding store behind quiet ones
+pub turn-decided : (π : Partition) (v : View) (c : Clean π v) (f : ℕ) (xs : List Store) (b : ℕ) (r : Rec)
+    → Each (Mine π v f) xs → Mine π v f b r → Turn π v (upd (after xs v) b r) f
+turn-decided π v c f xs b r h m = turn-of π v c (upd (after xs v) b r) f (λ x. go x (eqb x b) refl)
+  where
+    was : (x : ℕ) → Mine π v f x (after xs v x)
+    was = after-each (Mine π v f) xs v h (λ x i. inl (soft-refl π v x refl))
+
+    go : (x : ℕ) (t : Bool) → eqb x b ≡ t → Mine π v f x (pick t r (after xs v x))
+    go x true q = subst (λ (y : ℕ). Mine π v f y r) (sym (eqb-true x b q)) m
+    go x false q = was x
+
+pub each-map : (P Q : ℕ → Rec → Type 0) → ((b : ℕ) (r : Rec) → P b r → Q b r) → (xs : List Store) → Each P xs → Each Q xs
+each-map P Q m [] h = tt
+each-map P Q m (x ∷ xs) h = (m (x .at) (x .rec) (h .0), each-map P Q m xs (h .1))

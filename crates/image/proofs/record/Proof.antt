@@ -1,0 +1,63 @@
+-- HEAD
+use mathlib.Core.Path.{_≡_, refl, sym, ap, ap₂, _∙_}
+use Prim.Native.Nat.{ℕ, suc, _+_, _-_, _*_, _/_, _%_, _≤_, _<_}
+use native.Mathlib.Omega.{arith}
+use lib.ListN.{length}
+use denote.Ref.{now}
+use Rattle.image.specs.View.{put, put2}
+use Rattle.image.specs.Image.{view, recOf}
+use Rattle.image.specs.Stores.{bytesOf, over}
+use Rattle.image.specs.Saves.{words, withData, withText}
+use Rattle.image.proofs.Laws.{copied-out, word-set, copied, stored-at, data-set, text-set, blank-rec}
+-- END
+use borrow.Author.Needs.{needs}
+use Rattle.image.proofs.record.Statement.{statement}
+use Rattle.image.proofs.record.Tie as tie
+use Rattle.image.proofs.record.Reads as reads
+use Rattle.image.proofs.record.Lts as lts
+use Rattle.bytes.proofs.copy.Reads as copy-reads
+
+-- src/lib.rt:17:14
+mul-at : tie.Need-mul-at
+mul-at c = search needs
+
+-- src/lib.rt:18:15
+add-end : tie.Need-add-end
+add-end c = search needs
+
+-- src/lib.rt:20:17
+sub-copy : tie.Need-sub-copy
+sub-copy c = search needs
+
+-- src/lib.rt:20:17
+part-copy-start : tie.Need-part-copy-start
+part-copy-start c = search needs
+
+-- src/lib.rt:20:17
+part-copy-end : tie.Need-part-copy-end
+part-copy-end c = search needs
+
+-- src/lib.rt:20:32
+slice-aggregate-copy : tie.Need-slice-aggregate-copy
+slice-aggregate-copy c = search needs
+
+-- src/lib.rt:20:5
+copy-requires : tie.Need-copy-requires
+copy-requires c κs = search needs
+
+-- src/lib.rt:13:1
+returns : tie.Need-returns
+returns c = let a = c .before .before .before .before .before .args in ap recOf (c .before .copy .ensures .1) ∙ copied-out (now (a .img)) _ (a .b) (528 * a .b + 528 - 528 * a .b) (omega arith) (omega arith) (search needs)
+
+pub record-spec : {M : Type 1} → statement M
+record-spec =
+    tie.close
+    (tie.spec
+    mul-at
+    add-end
+    sub-copy
+    part-copy-start
+    part-copy-end
+    slice-aggregate-copy
+    copy-requires
+    returns)

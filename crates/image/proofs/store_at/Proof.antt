@@ -1,0 +1,63 @@
+-- HEAD
+use mathlib.Core.Path.{_≡_, refl, sym, ap, ap₂, _∙_}
+use Prim.Native.Nat.{ℕ, suc, _+_, _-_, _*_, _/_, _%_, _≤_, _<_}
+use native.Mathlib.Omega.{arith}
+use lib.ListN.{length}
+use denote.Ref.{now}
+use Rattle.image.specs.View.{put, put2}
+use Rattle.image.specs.Image.{view, recOf}
+use Rattle.image.specs.Stores.{bytesOf, over}
+use Rattle.image.specs.Saves.{words, withData, withText}
+use Rattle.image.proofs.Laws.{copied-out, word-set, copied, stored-at, data-set, text-set, blank-rec}
+-- END
+use borrow.Author.Needs.{needs}
+use Rattle.image.proofs.store_at.Statement.{statement}
+use Rattle.image.proofs.store_at.Tie as tie
+use Rattle.image.proofs.store_at.Reads as reads
+use Rattle.image.proofs.store_at.Lts as lts
+use Rattle.image.proofs.store.Reads as store-reads
+
+-- src/lib.rt:77:14
+mul-at : tie.Need-mul-at
+mul-at c = search needs
+
+-- src/lib.rt:78:11
+sub-store : tie.Need-sub-store
+sub-store c = search needs
+
+-- src/lib.rt:78:11
+part-store-start : tie.Need-part-store-start
+part-store-start c = search needs
+
+-- src/lib.rt:78:11
+part-store-end : tie.Need-part-store-end
+part-store-end c = search needs
+
+-- src/lib.rt:78:27
+slice-aggregate-store : tie.Need-slice-aggregate-store
+slice-aggregate-store c = search needs
+
+-- src/lib.rt:78:5
+store-requires : tie.Need-store-requires
+store-requires c κs = search needs
+
+-- src/lib.rt:73:1
+same-length : tie.Need-same-length
+same-length c = search needs
+
+-- src/lib.rt:73:1
+returns : tie.Need-returns
+returns c = let a = c .before .before .before .before .before .before .args in stored-at (now (a .img)) _ (a .b) (length (now (a .img)) - 528 * a .b) _ (omega arith) (c .before .before .store .ensures)
+
+pub store-at-spec : {M : Type 1} → statement M
+store-at-spec =
+    tie.close
+    (tie.spec
+    mul-at
+    sub-store
+    part-store-start
+    part-store-end
+    slice-aggregate-store
+    store-requires
+    same-length
+    returns)

@@ -1,0 +1,5 @@
+pub mod View
+pub mod Image
+pub mod Stores
+pub mod Saves
+pub mod Signed

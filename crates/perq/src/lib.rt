@@ -1,0 +1,119 @@
+// The library's calls as include/perq.h declares them. Each is thin: the call itself stands in a crate below, with the same contract.
+ghost use mathlib.Core.Path.{_≡_};
+ghost use Prim.Native.Nat.{_<_};
+ghost use Rattle.base.specs.Refusals.{culprit};
+ghost use Rattle.drive.specs.Answers.{lbnToPda, pdaToLbn, lbnToLda, ldaToLbn, lbnToFileId, fileIdToLbn};
+ghost use Rattle.drive.specs.Fits.{Fits};
+ghost use Rattle.perq.specs.Flat.{done, refused, flatConverted};
+use base::Refusal;
+use drive::Converted;
+
+// An answer as seven numbers: see include/perq.h.
+#[repr(C)]
+pub struct PerqAnswer {
+    pub outcome: u32,
+    pub number: u32,
+    pub block: u32,
+    pub made: u32,
+    pub a: u32,
+    pub b: u32,
+    pub c: u32,
+}
+
+fn narrow(x: usize) -> u32
+    requires { ⌜ x < 4294967296 ⌝ }
+    ensures { λ r. ⌜ r ≡ x ⌝ }
+{
+    x as u32
+}
+
+// A call that is done, with its values.
+fn done(a: usize, b: usize, c: usize) -> PerqAnswer
+    requires { ⌜ (a < 4294967296) × (b < 4294967296) × (c < 4294967296) ⌝ }
+    ensures { λ r. ⌜ r ≡ done 0 a b c ⌝ }
+{
+    PerqAnswer {
+        outcome: 0,
+        number: 0,
+        block: 0,
+        made: 0,
+        a: narrow(a),
+        b: narrow(b),
+        c: narrow(c),
+    }
+}
+
+// A call that is refused.
+fn refused(why: Refusal) -> PerqAnswer
+    requires { ⌜ culprit why < 4294967296 ⌝ }
+    ensures { λ r. ⌜ r ≡ refused why ⌝ }
+{
+    PerqAnswer {
+        outcome: 2,
+        number: base::number(why),
+        block: narrow(base::culprit(why)),
+        made: 0,
+        a: 0,
+        b: 0,
+        c: 0,
+    }
+}
+
+// A conversion's answer.
+fn converted(x: Converted) -> PerqAnswer
+    requires { ⌜ Fits x ⌝ }
+    ensures { λ r. ⌜ r ≡ flatConverted x ⌝ }
+{
+    match x {
+        Converted::Number(n) => done(n, 0, 0),
+        Converted::Refused(why) => refused(why),
+    }
+}
+
+// LBN to PDA.
+#[no_mangle]
+pub extern "C" fn perq_lbn_to_pda(drive: u32, lbn: u32) -> PerqAnswer
+    ensures { λ r. ⌜ r ≡ flatConverted (lbnToPda drive lbn) ⌝ }
+{
+    converted(drive::lbn_to_pda(drive, lbn))
+}
+
+// PDA to LBN.
+#[no_mangle]
+pub extern "C" fn perq_pda_to_lbn(drive: u32, pda: u32) -> PerqAnswer
+    ensures { λ r. ⌜ r ≡ flatConverted (pdaToLbn drive pda) ⌝ }
+{
+    converted(drive::pda_to_lbn(drive, pda))
+}
+
+// LBN to LDA.
+#[no_mangle]
+pub extern "C" fn perq_lbn_to_lda(drive: u32, lbn: u32) -> PerqAnswer
+    ensures { λ r. ⌜ r ≡ flatConverted (lbnToLda drive lbn) ⌝ }
+{
+    converted(drive::lbn_to_lda(drive, lbn))
+}
+
+// LDA to LBN.
+#[no_mangle]
+pub extern "C" fn perq_lda_to_lbn(drive: u32, lda: u32) -> PerqAnswer
+    ensures { λ r. ⌜ r ≡ flatConverted (ldaToLbn drive lda) ⌝ }
+{
+    converted(drive::lda_to_lbn(drive, lda))
+}
+
+// LBN to FileID.
+#[no_mangle]
+pub extern "C" fn perq_lbn_to_fileid(drive: u32, lbn: u32) -> PerqAnswer
+    ensures { λ r. ⌜ r ≡ flatConverted (lbnToFileId drive lbn) ⌝ }
+{
+    converted(drive::lbn_to_fileid(drive, lbn))
+}
+
+// FileID to LBN.
+#[no_mangle]
+pub extern "C" fn perq_fileid_to_lbn(drive: u32, fileid: u32) -> PerqAnswer
+    ensures { λ r. ⌜ r ≡ flatConverted (fileIdToLbn drive fileid) ⌝ }
+{
+    converted(drive::fileid_to_lbn(drive, fileid))
+}

@@ -1,0 +1,117 @@
+-- What each changing call answers and stores, of the image's bytes l: document 01's refusals in its order, the values, the list of
+-- stores with the deciding one's place, and the file named or created.
+use mathlib.Core.Path.{_≡_}
+use mathlib.Core.Bool.{Bool, true, false, not, _&&_, _||_}
+use mathlib.Core.List.{List, [], _∷_, _++_}
+use Prim.Native.Nat.{ℕ, zero, suc, _+_, _-_, _*_}
+use lib.Dec.{leb, ltb, eqb}
+use lib.ListN.{length, take}
+use Rattle.base.specs.Tests.{pick, both}
+use Rattle.base.specs.declared.Refusal.{Refusal}
+use Rattle.base.specs.declared.Refusal.the-variants.{BadBuffer, Malformed, Unsound, NoCandidate, BadBlock, Full, NothingFree}
+use Rattle.image.specs.View.{View, Rec, Store}
+use Rattle.image.specs.Image.{view}
+use Rattle.image.specs.Stores.{stored}
+use Rattle.image.specs.Saves.{words}
+use Rattle.volume.specs.Files.{Partition, partitionOf, candidate, len, sound, free, freeHead, unowned, reach}
+use Rattle.volume.specs.Answers.{partition, lowestMalformed}
+use Rattle.volume.specs.Plans.{Plan, stores, createPlan, replacePlan, appendPlan, grows, describePlan, destroyPlan, repairPlan}
+use Rattle.volume.specs.declared.Found.{Found}
+use Rattle.volume.specs.declared.Found.the-variants.{At, Nothing}
+use Rattle.volume.specs.declared.Part.{Part}
+use Rattle.volume.specs.declared.Part.the-variants as part
+use Rattle.volume.specs.declared.Outcome.{Outcome}
+use Rattle.volume.specs.declared.Outcome.the-variants.{Done, Absent, Refused}
+use Rattle.volume.specs.declared.Answer.{Answer}
+
+-- what a call comes to, its stores in order, and the place of the deciding one among them
+pub record Planned : Type 0 where
+  pub outcome : Outcome
+  pub list : List Store
+  pub deciding : ℕ
+
+-- nothing is stored under a refusal
+abbrev pub refuse : Refusal → Planned
+refuse y = record { outcome = Refused y; list = []; deciding = 0 }
+
+-- a call that is done, with the value a
+abbrev pub finish : ℕ → Plan → Planned
+finish a p = record { outcome = Done a 0 0; list = stores p; deciding = length (p .before) }
+
+-- ---- refusals 1 to 5, on the unchanged image
+
+-- 4, and then k
+abbrev pub unmarred : Found → Planned → Planned
+unmarred (At f) k = refuse (Malformed f)
+unmarred Nothing k = k
+
+-- 1, 2, and then k in the partition
+abbrev pub inPartition : Part → (ℕ → Planned) → Planned
+inPartition (part.Good e) k = k e
+inPartition (part.Refused y) k = refuse y
+
+-- 1, 2, 3 where the buffer does not fit, 4, 5, and then k in the sound partition
+unfoldable pub through : ℕ → List ℕ → ℕ → Bool → (Partition → Planned) → Planned
+through d l s fits k =
+    inPartition (partition d l s) (λ e. let π = partitionOf d s e in
+    pick fits (unmarred (lowestMalformed π (view l)) (pick (sound π (view l)) (k π) (refuse Unsound))) (refuse BadBuffer))
+
+-- ---- refusals 6 to 8 and the plans, in a sound partition
+
+module _ (π : Partition) (v : View) where
+  -- how many free blocks there are: 8 unless one is left over
+  abbrev pub room : ℕ
+  room = length (free π v)
+
+  unfoldable pub createIn : ℕ → Planned
+  createIn kind = pick (leb room 1) (refuse Full) (finish (freeHead π v) (createPlan π v kind))
+
+  unfoldable pub appendIn : ℕ → Rec → Planned
+  appendIn f dat = pick (leb room (pick (grows π v f) 2 1)) (refuse Full) (finish 0 (appendPlan π v f dat))
+
+  -- 7 is a block above 4,159 or above L + 1
+  unfoldable pub writeIn : ℕ → ℕ → Rec → Planned
+  writeIn f r dat =
+      pick (candidate π v f)
+      (pick (ltb r reach)
+      (pick (ltb r (len π v f)) (finish 0 (replacePlan π v f r dat)) (pick (eqb r (len π v f)) (appendIn f dat) (refuse BadBlock)))
+      (refuse BadBlock))
+      (refuse NoCandidate)
+
+  unfoldable pub describeIn : ℕ → Rec → Planned
+  describeIn f dat = pick (candidate π v f) (finish 0 (describePlan π v f dat)) (refuse NoCandidate)
+
+  unfoldable pub destroyIn : ℕ → Planned
+  destroyIn f = pick (candidate π v f) (finish 0 (destroyPlan π v f)) (refuse NoCandidate)
+
+  -- 9: no unowned block
+  unfoldable pub repairIn : Planned
+  repairIn = pick (eqb (length (unowned π v)) 0) (refuse NothingFree) (finish 0 (repairPlan π v))
+
+-- ---- the calls
+
+-- a changing call with its arguments; buffers are lists of bytes
+pub data Call : Type 0 where
+  create : ℕ → Call
+  write : ℕ → ℕ → List ℕ → Call
+  describe : ℕ → List ℕ → Call
+  destroy : ℕ → Call
+  repair : Call
+
+-- changing calls are refused by 1 to 8, repair by 1, 2, 4, 9
+unfoldable pub planned : ℕ → List ℕ → ℕ → Call → Planned
+planned d l s (create kind) = through d l s true (λ π. createIn π (view l) kind)
+planned d l s (write f r block) = through d l s (eqb (length block) 512) (λ π. writeIn π (view l) f r (words block))
+planned d l s (describe f text) = through d l s (eqb (length text) 104) (λ π. describeIn π (view l) f (words text))
+planned d l s (destroy f) = through d l s true (λ π. destroyIn π (view l) f)
+planned d l s repair =
+    inPartition (partition d l s) (λ e. let π = partitionOf d s e in unmarred (lowestMalformed π (view l)) (repairIn π (view l)))
+
+-- ---- under a limit
+
+-- a call with that plan and limit turned l into l′ and answered a: the first `limit` stores were applied, the count is their number, and
+-- the rest of the answer is that of the whole call
+pub record Answered (limit : ℕ) (p : Planned) (l l′ : List ℕ) (a : Answer) : Type 0 where
+  pub outcome : a .outcome ≡ p .outcome
+  pub made : a .made ≡ length (take limit (p .list))
+  pub image : l′ ≡ stored (take limit (p .list)) l

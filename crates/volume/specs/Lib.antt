@@ -1,0 +1,14 @@
+pub mod Words
+pub mod Files
+pub mod Answers
+pub mod Plans
+pub mod Calls
+pub mod Frame
+pub mod Owned
+pub mod Agree
+pub mod Steps
+pub mod Reads
+pub mod Table
+pub mod Numbers
+pub mod Layout
+pub mod Meaning

@@ -1,0 +1,147 @@
+-- M1 to M12 of document 01, proved of the definitions by computation as one table: `table` is what the definitions give, `paper` what
+-- document 01 prints, and `worked` says that they are equal.
+use mathlib.Core.Path.{_≡_, refl}
+use mathlib.Core.Bool.{Bool, true, false, not, _&&_}
+use mathlib.Core.List.{List, [], _∷_, _++_}
+use Prim.Native.Nat.{ℕ, zero, suc, _+_, _-_, _*_, _/_, _%_}
+use lib.Dec.{leb, ltb, eqb}
+use lib.ListN.{take}
+use Rattle.base.specs.Tests.{pick, both, every, tabFrom, headOf, lastOf, those, above, below, all, count, occ, sameRow, sameTable}
+use Rattle.base.specs.Laws.{same-table}
+use Rattle.base.specs.Refusals.{number}
+use Rattle.drive.specs.Code.{placeNumber, guess}
+use Rattle.drive.specs.Rows.{onDrive}
+use Rattle.drive.specs.Address.{blocks, pda, pdaBlock, lda, ldaBlock, fileId, fileIdBlock, fileIds}
+use Rattle.drive.specs.Answers.{lbnToPda, lbnToLda, pdaToLbn, ldaToLbn, lbnToFileId}
+use Rattle.drive.specs.declared.Converted.{Converted}
+use Rattle.drive.specs.declared.Converted.the-variants as convert
+use Rattle.image.specs.View.{View, Rec, after, places, put, put2, blank}
+use Rattle.image.specs.Saves.{withData, withText, words}
+use Rattle.volume.specs.Words.{partitionStartAt, partitionEndAt}
+use Rattle.volume.specs.Files.{Partition, partitionOf, inside, within, ptrIndex, ptrSlot, ptrsFor, placeOf, candidate, len, ptrs, indirect, ptr, entry, name, names, nth, size, indexed, restNil, numbered, wellFormed, isFile, isMalformed, place, owned, files, unowned, nextOf, prevOf, linked, chain, free, chained, freeSound, sound}
+use Rattle.volume.specs.Answers.{lowest, lowestMalformed, tallied, checkIn}
+use Rattle.volume.specs.Plans.{newFirst, pibLess, freshFib, datum, newPointer, slotted, pointerStores, lastStores, topStores, grownFib, put2If, appended, gone, topGone, fibGone, topGoneStores, lastGoneStores, pibMore, destroyed, trimmed, stores, createPlan, replacePlan, grows, appendPlan, describePlan, destroyPlan, content, relinked, freed, repaired, repairedPib, repairPlan}
+use Rattle.volume.specs.Calls.{Planned, createIn, appendIn, writeIn, describeIn, destroyIn, repairIn}
+use Rattle.volume.specs.declared.Outcome.{Outcome}
+use Rattle.volume.specs.declared.Outcome.the-variants.{Done, Absent, Refused}
+
+-- a conversion's answer: the two words, or the number of its refusal
+abbrev pub twoWords : Converted → List ℕ
+twoWords (convert.Number x) = x % 65536 ∷ x / 65536 ∷ []
+twoWords (convert.Refused y) = number y ∷ []
+
+abbrev pub oneNumber : Converted → List ℕ
+oneNumber (convert.Number x) = x ∷ []
+oneNumber (convert.Refused y) = number y ∷ []
+
+-- what a call came to: 0 and its values, or 2 and the number of its refusal
+abbrev pub outcomeOf : Outcome → List ℕ
+outcomeOf (Done a b c) = 0 ∷ a ∷ b ∷ c ∷ []
+outcomeOf Absent = 1 ∷ []
+outcomeOf (Refused y) = 2 ∷ number y ∷ []
+
+-- the answer of a changing call, then the blocks that it stores in order, then the place of the deciding one
+abbrev pub planOf : Planned → List ℕ
+planOf p = outcomeOf (p .outcome) ++ (places (p .list) ++ (p .deciding ∷ []))
+
+-- drive 0, partition 1..7
+abbrev pub seven : Partition
+seven = partitionOf 0 1 7
+
+-- all zero with Start and End set
+unfoldable pub zeroed : View
+zeroed b = pick (eqb b 1) (put2 partitionStartAt (lda 0 1) (put2 partitionEndAt (lda 0 7) blank)) blank
+
+-- what is written
+unfoldable pub block : Rec
+block w = w + 7
+
+-- repaired: what check answers, L + 1 of file 2, and the free chain
+pub mended : View → List ℕ
+mended v = let v′ = after (repairIn seven v .list) v in outcomeOf (checkIn seven v′) ++ (len seven v′ 2 ∷ free seven v′)
+
+pub table : List (List ℕ)
+unfolding zeroed mended both every all count tabFrom those occ lastOf headOf above below onDrive placeNumber guess blocks pda pdaBlock lda ldaBlock fileId fileIdBlock fileIds lbnToPda lbnToLda ldaToLbn pdaToLbn lbnToFileId after put put2 blank withData withText words inside within ptrsFor placeOf candidate len ptrs indirect ptr entry name names nth size indexed restNil numbered wellFormed isFile isMalformed place owned files unowned nextOf prevOf linked chain free chained freeSound sound lowest lowestMalformed tallied checkIn newFirst pibLess freshFib datum newPointer slotted pointerStores lastStores topStores grownFib put2If appended gone topGone fibGone topGoneStores lastGoneStores pibMore destroyed trimmed stores createPlan replacePlan grows appendPlan describePlan destroyPlan content relinked freed repaired repairedPib repairPlan createIn appendIn writeIn describeIn destroyIn repairIn
+table =
+    let v₀ = after (repairIn seven zeroed .list) zeroed in
+    let c = createIn seven v₀ 5 in
+    let v₁ = after (c .list) v₀ in
+    let w₀ = writeIn seven v₁ 2 0 block in
+    let v₂ = after (w₀ .list) v₁ in
+    let w₁ = writeIn seven v₂ 2 1 block in
+    let v₃ = after (w₁ .list) v₂ in
+    let z = destroyIn seven v₃ 2 in
+    let v₄ = after (z .list) v₃ in
+    (twoWords (lbnToLda 1 210) ++ (oneNumber (ldaToLbn 1 (lda 1 210)) ++ twoWords (lbnToPda 1 210)))
+    ∷ twoWords (lbnToPda 0 210)
+    ∷ twoWords (lbnToPda 0 24209)
+    ∷ twoWords (lbnToPda 1 48449)
+    ∷ (twoWords (lbnToPda 2 69551) ++ twoWords (lbnToLda 2 69551))
+    ∷ twoWords (lbnToPda 3 431)
+    ∷ oneNumber (lbnToFileId 3 431)
+    ∷ oneNumber (lbnToFileId 2 57344)
+    ∷ ((4 + ptrIndex 191) ∷ ptrSlot 191 ∷ [])
+    ∷ ((4 + ptrIndex 192) ∷ ptrSlot 192 ∷ [])
+    ∷ ((4 + ptrIndex 4159) ∷ ptrSlot 4159 ∷ [])
+    ∷ free seven v₀
+    ∷ planOf c
+    ∷ planOf w₀
+    ∷ planOf w₁
+    ∷ free seven v₃
+    ∷ mended v₂
+    ∷ mended (after (take 1 (w₁ .list)) v₂)
+    ∷ mended (after (take 2 (w₁ .list)) v₂)
+    ∷ mended (after (take 3 (w₁ .list)) v₂)
+    ∷ mended (after (take 4 (w₁ .list)) v₂)
+    ∷ mended (after (take 5 (w₁ .list)) v₂)
+    ∷ planOf z
+    ∷ free seven v₄
+    ∷ outcomeOf (checkIn seven v₀)
+    ∷ outcomeOf (checkIn seven v₁)
+    ∷ outcomeOf (checkIn seven v₂)
+    ∷ outcomeOf (checkIn seven v₃)
+    ∷ outcomeOf (checkIn seven v₄)
+    ∷ []
+
+pub paper : List (List ℕ)
+paper =
+    -- M1 to M8: addresses
+    (0o151000 ∷ 0o140000 ∷ 210 ∷ 0o400 ∷ 0 ∷ [])
+    ∷ (0o1000 ∷ 0 ∷ [])
+    ∷ (0o144575 ∷ 0 ∷ [])
+    ∷ (0o144775 ∷ 0 ∷ [])
+    ∷ (0o2027 ∷ 0o1103 ∷ 0o127400 ∷ 0o140417 ∷ [])
+    ∷ (0o27 ∷ 0o114 ∷ [])
+    ∷ (57775 ∷ [])
+    ∷ (10 ∷ [])
+    -- M9 to M11: pointer blocks -4, -5, -35 and their entries
+    ∷ (4 ∷ 127 ∷ [])
+    ∷ (5 ∷ 0 ∷ [])
+    ∷ (35 ∷ 127 ∷ [])
+    -- M12: fresh; create gives 2; append r = 0, r = 1; each with its stores and the deciding one's place
+    ∷ (2 ∷ 3 ∷ 4 ∷ 5 ∷ 6 ∷ 7 ∷ [])
+    ∷ (0 ∷ 2 ∷ 0 ∷ 0 ∷ 2 ∷ 3 ∷ 1 ∷ 0 ∷ [])
+    ∷ (0 ∷ 0 ∷ 0 ∷ 0 ∷ 3 ∷ 2 ∷ 4 ∷ 1 ∷ 1 ∷ [])
+    ∷ (0 ∷ 0 ∷ 0 ∷ 0 ∷ 4 ∷ 3 ∷ 2 ∷ 5 ∷ 1 ∷ 2 ∷ [])
+    ∷ (5 ∷ 6 ∷ 7 ∷ [])
+    -- cut after 0 to 5 stores and repaired: sound with one file, L + 1, the free chain
+    ∷ (0 ∷ 1 ∷ 2 ∷ 4 ∷ 1 ∷ 4 ∷ 5 ∷ 6 ∷ 7 ∷ [])
+    ∷ (0 ∷ 1 ∷ 2 ∷ 4 ∷ 1 ∷ 4 ∷ 5 ∷ 6 ∷ 7 ∷ [])
+    ∷ (0 ∷ 1 ∷ 2 ∷ 4 ∷ 1 ∷ 4 ∷ 5 ∷ 6 ∷ 7 ∷ [])
+    ∷ (0 ∷ 1 ∷ 3 ∷ 3 ∷ 2 ∷ 5 ∷ 6 ∷ 7 ∷ [])
+    ∷ (0 ∷ 1 ∷ 3 ∷ 3 ∷ 2 ∷ 5 ∷ 6 ∷ 7 ∷ [])
+    ∷ (0 ∷ 1 ∷ 3 ∷ 3 ∷ 2 ∷ 5 ∷ 6 ∷ 7 ∷ [])
+    -- uncut, then destroyed
+    ∷ (0 ∷ 0 ∷ 0 ∷ 0 ∷ 2 ∷ 4 ∷ 7 ∷ 1 ∷ 0 ∷ [])
+    ∷ (5 ∷ 6 ∷ 7 ∷ 2 ∷ 3 ∷ 4 ∷ [])
+    -- check after each call: files, owned blocks, free blocks
+    ∷ (0 ∷ 0 ∷ 0 ∷ 6 ∷ [])
+    ∷ (0 ∷ 1 ∷ 1 ∷ 5 ∷ [])
+    ∷ (0 ∷ 1 ∷ 2 ∷ 4 ∷ [])
+    ∷ (0 ∷ 1 ∷ 3 ∷ 3 ∷ [])
+    ∷ (0 ∷ 0 ∷ 0 ∷ 6 ∷ [])
+    ∷ []
+
+pub worked : table ≡ paper
+unfolding sameRow sameTable table paper block zeroed mended both every all count tabFrom those occ lastOf headOf above below onDrive placeNumber guess blocks pda pdaBlock lda ldaBlock fileId fileIdBlock fileIds lbnToPda lbnToLda ldaToLbn pdaToLbn lbnToFileId after put put2 blank withData withText words inside within ptrsFor placeOf candidate len ptrs indirect ptr entry name names nth size indexed restNil numbered wellFormed isFile isMalformed place owned files unowned nextOf prevOf linked chain free chained freeSound sound lowest lowestMalformed tallied checkIn newFirst pibLess freshFib datum newPointer slotted pointerStores lastStores topStores grownFib put2If appended gone topGone fibGone topGoneStores lastGoneStores pibMore destroyed trimmed stores createPlan replacePlan grows appendPlan describePlan destroyPlan content relinked freed repaired repairedPib repairPlan createIn appendIn writeIn describeIn destroyIn repairIn
+worked = same-table table paper refl

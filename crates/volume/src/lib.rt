@@ -1,0 +1,33 @@
+// What the calls answer. The definitions of document 01 stand in specs/, and docs/DEFINITIONS.md leads to each.
+use base::Refusal;
+
+// The lowest block with something, if any has it.
+pub enum Found {
+    At(usize),
+    Nothing,
+}
+
+// The end of a good partition, or why it is refused.
+pub enum Part {
+    Good(usize),
+    Refused(Refusal),
+}
+
+// What a call came to: done, with up to three values; nothing there; or why it is refused.
+pub enum Outcome {
+    Done(usize, usize, usize),
+    Absent,
+    Refused(Refusal),
+}
+
+// A call's answer: what it came to, and how many stores it made.
+pub struct Answer {
+    pub made: usize,
+    pub outcome: Outcome,
+}
+
+// The answer of show of a pair: what it came to, and whose answer that is: 1 the repaired image's, 2 the original's.
+pub struct PairAnswer {
+    pub image: usize,
+    pub outcome: Outcome,
+}

@@ -1,0 +1,263 @@
+//! The edges of the changing calls: where the index changes its form, where a partition is full, what a destroyed file
+//! leaves behind, and blocks whose numbers need more than 16 bits.
+#![cfg(feature = "changing")]
+
+use perq::{raw, Drive};
+use reference::image::RECORD;
+use reference::sample::{content, fresh, scattered};
+use trials::both::Both;
+use trials::call::{Call, Name};
+use trials::cuts::every_limit;
+use trials::draw::candidates;
+use trials::images::{pair, shuffled, word, Place};
+use trials::settings::rng;
+use trials::sweep;
+use trials::tally::is_refusal;
+
+fn free_blocks(both: &mut Both, place: &Place) -> u32 {
+    let answer = both.call(&place.call(Name::Check));
+    assert_eq!(answer.outcome, raw::DONE, "{answer:?}");
+    answer.c
+}
+
+#[test]
+fn a_file_grows_from_nothing_across_two_pointer_blocks() {
+    for drive in 0..4 {
+        let place = Place { drive, n: 230, s: 2, e: 228 };
+        let mut both = Both::new(shuffled(&place, &[], &mut rng(30)));
+        let f = every_limit(&mut both, &place.create(0xFFFF)).a;
+        for r in 0..200 {
+            let answer = match r {
+                0..=2 | 62..=66 | 190..=194 => every_limit(&mut both, &place.write(f, r, r as u8)),
+                _ => both.call(&place.write(f, r, r as u8)),
+            };
+            assert_eq!(answer.made, stores_of_an_append(r), "append of block {r}");
+            let refused = both.call(&place.write(f, r + 2, 0));
+            assert!(is_refusal(refused, 7), "{refused:?}");
+        }
+        assert_eq!(free_blocks(&mut both, &place), 226 - 1 - 200 - 2);
+        sweep::whole_file(&mut both, &place, f);
+        every_limit(&mut both, &place.write(f, 130, 99));
+        every_limit(&mut both, &place.destroy(f));
+        assert_eq!(free_blocks(&mut both, &place), 226);
+    }
+}
+
+/// Data, pointer block, old last block, old most negative block, FIB, new first free block, PIB.
+fn stores_of_an_append(r: u32) -> u32 {
+    let pointer_is_new = r >= 64 && (r - 64) % 128 == 0;
+    4 + u32::from(r >= 64) + u32::from(r >= 1) + u32::from(pointer_is_new && r > 64)
+}
+
+#[test]
+fn the_last_block_that_a_file_can_have() {
+    for drive in 0..3 {
+        for length in [4_030, 4_031, 4_032, 4_033, 4_158, 4_159] {
+            let place = Place { drive, n: 4_300, s: 1, e: 4_299 };
+            let mut both = Both::new(scattered(drive, place.n, place.s, place.e, &[length], 3));
+            let answer = every_limit(&mut both, &place.write(2, length, 1));
+            assert_eq!(answer.made, stores_of_an_append(length));
+        }
+        let place = Place { drive, n: 4_300, s: 1, e: 4_299 };
+        let mut both = Both::new(scattered(drive, place.n, place.s, place.e, &[4_160], 3));
+        for r in [4_160, 4_161, u32::MAX] {
+            assert!(is_refusal(both.call(&place.write(2, r, 1)), 7));
+        }
+        every_limit(&mut both, &place.write(2, 4_159, 1));
+        every_limit(&mut both, &place.destroy(2));
+        assert_eq!(free_blocks(&mut both, &place), 4_298);
+    }
+}
+
+/// A partition with one file of `length` blocks and exactly `free` free ones.
+fn nearly_full(drive: u32, length: u32, free: u32) -> (Place, Both) {
+    let owned = 1 + length + length.saturating_sub(64).div_ceil(128);
+    let place = Place { drive, n: owned + free + 2, s: 1, e: owned + free + 1 };
+    let image = shuffled(&place, &[length], &mut rng(31));
+    (place, Both::new(image))
+}
+
+#[test]
+fn too_few_free_blocks_for_the_call_plus_one() {
+    for drive in 0..4 {
+        for (length, free, fits) in [
+            (64, 1, false),
+            (64, 2, false),
+            (64, 3, true),
+            (63, 1, false),
+            (63, 2, true),
+            (65, 1, false),
+            (65, 2, true),
+            (192, 2, false),
+            (192, 3, true),
+            (0, 1, false),
+            (0, 2, true),
+        ] {
+            let (place, mut both) = nearly_full(drive, length, free);
+            let f = candidates(both.image(), &place)[0];
+            let answer = every_limit(&mut both, &place.write(f, length, 7));
+            assert_eq!(is_refusal(answer, 8), !fits, "block {length} with {free} free: {answer:?}");
+            let (_, mut both) = nearly_full(drive, length, free);
+            let answer = every_limit(&mut both, &place.create(0));
+            assert_eq!(is_refusal(answer, 8), free < 2, "create with {free} free: {answer:?}");
+        }
+    }
+}
+
+#[test]
+fn the_last_free_block_is_never_handed_out() {
+    for drive in 0..4 {
+        let place = Place::whole(drive, 90);
+        let mut both = Both::new(fresh(drive, 90, 1, 89));
+        let f = both.call(&place.create(1)).a;
+        let full =
+            (0..).find(|&r| is_refusal(both.call(&place.write(f, r, 1)), 8)).expect("it fills up");
+        assert_eq!(full, 85, "85 blocks, a pointer block, the file's own and a free one are 88");
+        assert_eq!(free_blocks(&mut both, &place), 1);
+        assert!(is_refusal(both.call(&place.create(1)), 8));
+        assert_eq!(both.call(&place.write(f, 84, 2)).made, 1, "replacing needs no block");
+    }
+}
+
+/// Destroys a file, and takes its first block for a new one while the old blocks still carry its serial.
+fn destroy_and_use_again(drive: u32, length: u32) {
+    let (place, mut both) = nearly_full(drive, length, 2);
+    let f = candidates(both.image(), &place)[0];
+    let stores = every_limit(&mut both, &place.destroy(f)).made;
+    let expected = 3 + u32::from(length > 64) + u32::from(length > 0);
+    assert_eq!(stores, expected, "destroy of {length} blocks");
+    let all = free_blocks(&mut both, &place);
+    assert_eq!(all, place.e - place.s);
+    // Files are made until the old first block comes up again; then it grows beside its own stale blocks.
+    let mut made = Vec::new();
+    while !made.contains(&f) && made.len() as u32 + 2 < all {
+        made.push(every_limit(&mut both, &place.create(5)).a);
+    }
+    for &file in &made {
+        sweep::file(&mut both, &place, file);
+    }
+    if made.contains(&f) {
+        every_limit(&mut both, &place.write(f, 0, 1));
+        every_limit(&mut both, &place.write(f, 1, 2));
+        sweep::whole_file(&mut both, &place, f);
+        every_limit(&mut both, &place.call(Name::Repair));
+        every_limit(&mut both, &place.destroy(f));
+    }
+    free_blocks(&mut both, &place);
+}
+
+#[test]
+fn a_destroyed_file_leaves_stale_serials_and_its_block_is_used_again() {
+    for drive in 0..4 {
+        for length in [0, 1, 2, 64, 65, 192, 193, 200] {
+            destroy_and_use_again(drive, length);
+        }
+    }
+}
+
+#[test]
+fn filler_of_micropolis_blocks_above_65535() {
+    let n = Drive::Micropolis35.blocks();
+    let place = Place { drive: Drive::Micropolis35.number(), n, s: 65_530, e: 65_560 };
+    let mut both = Both::new(fresh(place.drive, n, place.s, place.e));
+    let mut file = 0;
+    for kind in 0..6 {
+        file = both.call(&place.create(kind)).a;
+    }
+    assert_eq!(file, 65_536);
+    assert_eq!(word(both.image(), 65_536, 3), 0, "the filler is the low half of 65,536");
+    assert_eq!(word(both.image(), 65_537, 3), 1);
+    both.call(&place.write(file, 0, 1));
+    both.call(&place.write(file, 1, 1));
+    both.call(&place.destroy(file));
+    assert_eq!(word(both.image(), 65_538, 3), 3, "the last block takes FreeHead's: block 65,539");
+    both.call(&place.call(Name::Repair));
+    assert_eq!(word(both.image(), 65_560, 3), 0, "the first free block is 65,536");
+    assert_eq!(free_blocks(&mut both, &place), 25);
+}
+
+#[test]
+fn the_last_blocks_of_every_drive_change_as_the_others_do() {
+    for drive in Drive::ALL {
+        let n = drive.blocks();
+        let place = Place { drive: drive.number(), n, s: n - 80, e: n - 1 };
+        let mut both = Both::new(fresh(place.drive, n, place.s, place.e));
+        let f = both.call(&place.create(3)).a;
+        for r in 0..66 {
+            both.call(&place.write(f, r, r as u8));
+        }
+        assert_eq!(free_blocks(&mut both, &place), 79 - 1 - 66 - 1);
+        both.call(&place.destroy(f));
+        both.call(&place.call(Name::Repair));
+        assert_eq!(free_blocks(&mut both, &place), 79);
+    }
+}
+
+#[test]
+fn the_order_of_stores_of_the_worked_example() {
+    let place = Place::whole(0, 8);
+    let mut image = fresh(0, 8, 1, 7);
+    let free = |image: &[u8]| reference::inspect::free_chain(image, 0, 1).expect("sound");
+    assert_eq!(free(&image), [2, 3, 4, 5, 6, 7]);
+    assert_eq!(stored(&mut image, &place.create(9)), [2, 3, 1]);
+    assert_eq!(stored(&mut image, &place.write(2, 0, 10)), [3, 2, 4, 1]);
+    assert_eq!(stored(&mut image, &place.write(2, 1, 11)), [4, 3, 2, 5, 1]);
+    assert_eq!(free(&image), [5, 6, 7]);
+    assert_eq!(stored(&mut image, &place.destroy(2)), [2, 4, 7, 1]);
+    assert_eq!(free(&image), [5, 6, 7, 2, 3, 4]);
+    assert_eq!(pair(&image, 2, 0), 0, "the serial of the file's own block is gone");
+    assert_ne!(pair(&image, 3, 0), 0, "the inner block keeps it");
+}
+
+/// The blocks that the library stores, one by one, in their order.
+fn stored(image: &mut Vec<u8>, call: &Call) -> Vec<u32> {
+    let mut blocks = Vec::new();
+    let mut last = image.clone();
+    for limit in 1.. {
+        let mut next = image.clone();
+        let mut buffer = call.buffer.clone();
+        let limited = call.clone().with_limit(limit);
+        let answer =
+            trials::call::on_library(&limited, &mut next, &[], &mut buffer).expect("exported");
+        if answer.made < limit {
+            break;
+        }
+        blocks.extend(trials::cuts::changed_blocks(&last, &next));
+        last = next;
+    }
+    *image = last;
+    blocks
+}
+
+#[test]
+fn descriptions_are_set_and_read_back() {
+    let place = Place { drive: 1, n: 60, s: 4, e: 58 };
+    let mut both = Both::new(shuffled(&place, &[3, 0], &mut rng(32)));
+    for f in candidates(both.image(), &place) {
+        let text: Vec<u8> = (0..104).map(|i| i as u8 ^ f as u8).collect();
+        let call = Call::new(Name::Describe, 1, 4).with_file(f).with_buffer(&text);
+        assert_eq!(every_limit(&mut both, &call).made, 1);
+        let reader = Call::new(Name::Description, 1, 4).with_file(f).with_buffer(&[0; 104]);
+        assert_eq!(both.call_with(&reader, &[]).1, text);
+    }
+}
+
+#[test]
+fn typed_answers() {
+    let drive = Drive::Shugart12;
+    let mut image = perq::blank(drive, 8, 1, 7).expect("a partition");
+    assert_eq!(image.len(), 8 * RECORD);
+    assert_eq!(perq::repair(&mut image, drive, 1, perq::ALL), Ok(7));
+    assert_eq!(
+        perq::create(&mut image, drive, 1, 0, perq::ALL),
+        Ok(perq::Created { file: 2, made: 3 })
+    );
+    assert_eq!(perq::write(&mut image, drive, 1, 2, 0, &content(0, 0, 0), perq::ALL), Ok(4));
+    assert_eq!(perq::describe(&mut image, drive, 1, 2, &[7; 104], perq::ALL), Ok(1));
+    assert_eq!(perq::description(&image, drive, 1, 2), Ok([7; 104]));
+    assert_eq!(perq::destroy(&mut image, drive, 1, 2, 2), Ok(2));
+    assert_eq!(perq::check(&image, drive, 1), Err(perq::Refusal::Unsound));
+    assert_eq!(perq::blank(drive, 8, 0, 7), Err(perq::Refusal::Partition));
+    assert_eq!(perq::blank(drive, 8, 1, 8), Err(perq::Refusal::Partition));
+    assert_eq!(perq::blank(Drive::Floppy, 433, 1, 7), Err(perq::Refusal::Image));
+}

@@ -1,0 +1,240 @@
+//! Every refusal: seen by itself, seen before all that come after it in the call's order, and nothing touched.
+#![cfg(feature = "reading")]
+
+use perq::{raw, Drive};
+use reference::image::RECORD;
+use reference::sample::scattered;
+use trials::both::Both;
+use trials::call::{Call, Group, Name};
+use trials::images::{pair, set_pair, set_word, word, Place, DATA_WORD};
+use trials::tally::{is_refusal, refusals};
+
+/// A full partition: file 2 of 64 blocks, file 3 without any, one free block.
+const PLACE: Place = Place { drive: 3, n: 70, s: 1, e: 68 };
+const FILE: u32 = 2;
+
+fn full_image() -> Vec<u8> {
+    scattered(PLACE.drive, PLACE.n, PLACE.s, PLACE.e, &[64, 0], 4)
+}
+
+/// The same with room for more.
+fn roomy_image() -> Vec<u8> {
+    scattered(PLACE.drive, PLACE.n, PLACE.s, PLACE.e, &[60, 0], 4)
+}
+
+/// A call on file 2 that is done, with every argument as it should be. A write replaces block 0.
+fn fine(name: Name, image: &[u8]) -> Call {
+    let call = Call::new(name, PLACE.drive, PLACE.s).with_file(FILE);
+    let length = word(image, FILE, DATA_WORD + 250).wrapping_add(1);
+    call.with_buffer(&vec![0xA5; right_length(name, usize::from(length))])
+}
+
+fn right_length(name: Name, blocks: usize) -> usize {
+    match name {
+        Name::Read | Name::Write => 512,
+        Name::Description | Name::Describe => 104,
+        Name::Extract => 512 * blocks,
+        _ => 0,
+    }
+}
+
+/// Brings about the cause of a refusal; causes can be brought about together.
+fn cause(number: u32, image: &mut [u8], call: &mut Call) {
+    match number {
+        1 => call.drive = 4,
+        2 => {
+            let start = pair(image, PLACE.s, DATA_WORD + 118);
+            set_pair(image, PLACE.s, DATA_WORD + 118, start + 256);
+        }
+        3 => call.buffer.push(0),
+        4 => {
+            // Blocks in use is one too many; in the other file too, so that the lowest is named.
+            for f in [FILE, FILE + 1] {
+                let in_use = word(image, f, DATA_WORD + 249);
+                set_word(image, f, DATA_WORD + 249, in_use + 1);
+            }
+        }
+        5 => {
+            let free = pair(image, PLACE.s, DATA_WORD + 4);
+            set_pair(image, PLACE.s, DATA_WORD + 4, free + 1);
+        }
+        6 => call.f = PLACE.s,
+        7 => call.r = 4_160,
+        8 if call.name == Name::Write && call.r == 0 => call.r = 64,
+        8 => {}
+        _ => unreachable!("{number} has a test of its own"),
+    }
+}
+
+/// The call with these causes, on an image that has just one free block if 8 is among them.
+fn answer_under(name: Name, causes: &[u32]) -> (Both, Call) {
+    let mut image = if causes.contains(&8) { full_image() } else { roomy_image() };
+    let mut call = fine(name, &image);
+    for &number in causes {
+        cause(number, &mut image, &mut call);
+    }
+    (Both::new(image), call)
+}
+
+fn must_refuse(name: Name, causes: &[u32], number: u32) {
+    let (mut both, call) = answer_under(name, causes);
+    let before = both.image().to_vec();
+    let (answer, buffer) = both.call_with(&call, &[]);
+    assert!(is_refusal(answer, number), "{name:?} under {causes:?}: {answer:?}");
+    assert_eq!(answer.block, if number == 4 { FILE } else { 0 });
+    assert_eq!(answer.made, 0);
+    assert!(
+        both.image() == before && buffer == call.buffer,
+        "{name:?} under {causes:?} has stored"
+    );
+}
+
+fn exported() -> impl Iterator<Item = Name> {
+    let all = Name::READING.into_iter().chain(Name::CHANGING);
+    all.filter(|name| name.group().exported() && *name != Name::ShowPair)
+}
+
+#[test]
+fn nothing_is_refused_when_all_is_well() {
+    for name in exported() {
+        let (mut both, call) = answer_under(name, &[]);
+        assert_ne!(both.call(&call).outcome, raw::REFUSED, "{name:?}");
+    }
+}
+
+#[test]
+fn each_refusal_by_itself() {
+    for name in exported() {
+        for &number in refusals(name).iter().filter(|&&number| number < 9) {
+            must_refuse(name, &[number], number);
+        }
+    }
+}
+
+#[test]
+fn each_refusal_before_every_later_one() {
+    for name in exported() {
+        let order: Vec<u32> = refusals(name).iter().copied().filter(|&number| number < 9).collect();
+        for (i, &first) in order.iter().enumerate() {
+            must_refuse(name, &order[i..], first);
+            for &later in &order[i + 1..] {
+                must_refuse(name, &[first, later], first);
+            }
+        }
+    }
+}
+
+#[test]
+fn only_the_file_that_is_named_is_asked_about_when_reading_it() {
+    for name in [Name::Read, Name::Show, Name::Description, Name::Extract] {
+        let (mut both, call) = answer_under(name, &[]);
+        both.edit(|image| set_word(image, FILE + 1, DATA_WORD + 249, 9));
+        assert_eq!(
+            both.call(&call).outcome,
+            raw::DONE,
+            "{name:?} of a good file beside a malformed one"
+        );
+        let answer = both.call(&call.with_file(FILE + 1));
+        assert!(is_refusal(answer, 4) && answer.block == FILE + 1, "{name:?}: {answer:?}");
+    }
+}
+
+#[test]
+fn images_of_a_wrong_length() {
+    for name in exported() {
+        let image = roomy_image();
+        let call = fine(name, &image);
+        for length in [0, 1, 527, 529, image.len() - 1, image.len() + 1, RECORD * 433] {
+            let mut both = Both::new(image.clone());
+            both.edit(|image| image.resize(length, 0));
+            let answer = both.call(&call);
+            assert!(is_refusal(answer, 1), "{name:?} on {length} bytes: {answer:?}");
+        }
+    }
+}
+
+#[test]
+fn images_of_one_record_too_many_for_each_drive() {
+    for drive in Drive::ALL {
+        let mut image = vec![0; RECORD * (drive.blocks() as usize + 1)];
+        assert_eq!(raw::check(&image, drive.number(), 1).number, 1);
+        image.truncate(RECORD * drive.blocks() as usize);
+        assert_eq!(raw::check(&image, drive.number(), 1).number, 2);
+    }
+}
+
+#[test]
+fn buffers_of_a_wrong_length() {
+    for name in exported().filter(|&name| refusals(name).contains(&3)) {
+        for length in [0, 1, 103, 105, 511, 513, 1_024, 512 * 59, 512 * 61] {
+            let (mut both, call) = answer_under(name, &[]);
+            let answer = both.call(&call.with_buffer(&vec![1; length]));
+            assert!(is_refusal(answer, 3), "{name:?} with {length} bytes: {answer:?}");
+        }
+    }
+}
+
+#[test]
+fn partitions_that_are_not_good() {
+    let image = roomy_image();
+    let lda = |b| reference::lbn_to_lda(PLACE.drive, b).a;
+    let cases = [
+        ("start is another block", 118, lda(2)),
+        ("start is nil", 118, 0),
+        ("start is a PDA", 118, reference::lbn_to_pda(PLACE.drive, 1).a),
+        ("end is the start", 120, lda(1)),
+        ("end is before the start", 120, lda(0)),
+        ("end is the record after the last", 120, lda(70)),
+        ("end is nil", 120, 0),
+        ("end has a low bit", 120, lda(68) + 1),
+        ("end is a hard drive's", 120, reference::lbn_to_lda(0, 68).a),
+    ];
+    for (what, at, value) in cases {
+        let mut both = Both::new(image.clone());
+        both.edit(|image| set_pair(image, PLACE.s, DATA_WORD + at, value));
+        for name in exported() {
+            let answer = both.call(&fine(name, &image));
+            assert!(is_refusal(answer, 2), "{name:?} where {what}: {answer:?}");
+        }
+    }
+    for s in [0, 2, 69, 70, 71, u32::MAX] {
+        for name in exported() {
+            let answer = Both::new(image.clone()).call(&Call { s, ..fine(name, &image) });
+            assert!(is_refusal(answer, 2), "{name:?} at {s}: {answer:?}");
+        }
+    }
+}
+
+#[test]
+fn a_partition_that_starts_at_block_0_is_not_good() {
+    let mut image = vec![0; RECORD * 8];
+    set_pair(&mut image, 0, DATA_WORD + 118, reference::lbn_to_lda(0, 0).a);
+    set_pair(&mut image, 0, DATA_WORD + 120, reference::lbn_to_lda(0, 7).a);
+    assert_eq!(Both::new(image).call(&Call::new(Name::Check, 0, 0)).number, 2);
+}
+
+#[test]
+fn repair_without_an_unowned_block() {
+    if !Group::Changing.exported() {
+        return;
+    }
+    for drive in 0..4 {
+        let place = Place { drive, n: 3, s: 1, e: 2 };
+        let mut image = reference::sample::fresh(drive, 3, 1, 2);
+        set_pair(&mut image, 2, 0, place.pda(2));
+        set_word(&mut image, 2, 2, 65_535);
+        for (at, value) in [(249, 1), (250, 65_535), (253, 65_535)] {
+            set_word(&mut image, 2, DATA_WORD + at, value);
+        }
+        for at in [251, 254] {
+            set_pair(&mut image, 2, DATA_WORD + at, place.lda(2));
+        }
+        let mut both = Both::new(image);
+        assert!(is_refusal(both.call(&Call::new(Name::Check, drive, 1)), 5));
+        assert!(is_refusal(both.call(&Call::new(Name::Repair, drive, 1)), 9));
+        both.edit(|image| set_word(image, 2, DATA_WORD + 249, 2));
+        assert!(is_refusal(both.call(&Call::new(Name::Repair, drive, 1)), 4));
+        both.edit(|image| set_pair(image, 1, DATA_WORD + 118, 0));
+        assert!(is_refusal(both.call(&Call::new(Name::Repair, drive, 1)), 2));
+    }
+}

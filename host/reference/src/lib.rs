@@ -1,0 +1,31 @@
+//! An independent implementation of the rules of document 01 (one partition on a lent volume image),
+//! written from that document and perq.h alone. Tests and benchmarks compare another library with it.
+//!
+//! The calls of perq.h are here under the same names without `perq_`. The other public modules hold
+//! the parts they are made of, which tests may also use.
+#![forbid(unsafe_code)]
+
+pub mod address;
+pub mod answer;
+pub mod changing;
+pub mod file;
+pub mod image;
+pub mod inspect;
+pub mod plan;
+pub mod reading;
+pub mod record;
+pub mod repair;
+pub mod sample;
+pub mod sound;
+
+mod allocation;
+mod append;
+
+pub use address::{fileid_to_lbn, lbn_to_fileid, lbn_to_lda, lbn_to_pda, lda_to_lbn, pda_to_lbn};
+pub use answer::{Answer, ABSENT, DONE, REFUSED};
+pub use changing::{create, describe, destroy, write};
+pub use changing::{plan_create, plan_describe, plan_destroy, plan_write};
+pub use plan::Plan;
+pub use reading::{description, extract, next_file, read, show, show_pair};
+pub use repair::{plan_repair, repair};
+pub use sound::check;

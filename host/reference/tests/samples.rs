@@ -1,0 +1,103 @@
+//! The sample images are sound, and are what the calls would make.
+
+mod common;
+use common::*;
+use reference::sample::{blank, content, fresh, growth, scattered, Rng};
+use reference::*;
+
+#[test]
+fn blank_is_repaired_to_fresh() {
+    for (drive, n, s, e) in [
+        (0, 8, 1, 7),
+        (1, 500, 3, 400),
+        (2, 3, 1, 2),
+        (3, 432, 100, 431),
+    ] {
+        let mut image = blank(drive, n, s, e);
+        assert_eq!(image.len(), 528 * n as usize);
+        assert_eq!(check(&image, drive, s), refused(5));
+        assert_eq!(repair(&mut image, drive, s, ALL).made, e - s + 1);
+        assert!(image == fresh(drive, n, s, e));
+        assert_eq!(
+            check(&image, drive, s),
+            Answer {
+                c: e - s,
+                ..Answer::default()
+            }
+        );
+    }
+}
+
+#[test]
+fn scattered_is_what_the_calls_make() {
+    let lengths = [130, 0, 1, 193, 10, 65];
+    for (drive, seed) in [(0, 1), (1, 2), (2, 3), (3, 4)] {
+        let mut image = blank(drive, 432, 2, 430);
+        repair(&mut image, drive, 2, ALL);
+        for i in 0..lengths.len() {
+            assert_eq!(create(&mut image, drive, 2, i as u16, ALL).a, 3 + i as u32);
+        }
+        let mut grown = [0; 6];
+        for i in growth(&lengths, seed) {
+            let data = content(seed, i, grown[i]);
+            let answer = write(&mut image, drive, 2, 3 + i as u32, grown[i], &data, ALL);
+            assert_eq!(answer.outcome, DONE);
+            grown[i] += 1;
+        }
+        assert_eq!(grown, lengths);
+        assert!(image == scattered(drive, 432, 2, 430, &lengths, seed));
+    }
+}
+
+#[test]
+fn large_partitions_are_sound() {
+    let lengths: [u32; 12] = [
+        4_160, 4_160, 4_159, 4_000, 3_000, 1_000, 192, 191, 64, 63, 1, 0,
+    ];
+    let blocks = |&length: &u32| 1 + length + length.saturating_sub(64).div_ceil(128);
+    let owned: u32 = lengths.iter().map(blocks).sum();
+    let image = scattered(2, 69_552, 30_000, 62_766, &lengths, 7);
+    let expected = Answer {
+        a: 12,
+        b: owned,
+        c: 32_766 - owned,
+        ..Answer::default()
+    };
+    assert_eq!(check(&image, 2, 30_000), expected);
+    let full = scattered(0, 4_200, 1, 4_195, &[4_160], 7);
+    assert_eq!(
+        check(&full, 0, 1),
+        Answer {
+            a: 1,
+            b: 4_193,
+            c: 1,
+            ..Answer::default()
+        }
+    );
+}
+
+#[test]
+fn scattered_files_are_interleaved() {
+    let image = scattered(1, 1_000, 1, 999, &[300, 300], 9);
+    let blocks = inspect::file_blocks(&image, 1, 1, 2).unwrap();
+    let gaps = blocks[3..]
+        .windows(2)
+        .filter(|pair| pair[1] != pair[0] + 1)
+        .count();
+    assert!(gaps > 100);
+    assert!(image != scattered(1, 1_000, 1, 999, &[300, 300], 10));
+}
+
+#[test]
+fn the_generator_is_deterministic() {
+    let numbers = |seed| {
+        let mut rng = Rng::new(seed);
+        (0..100).map(|_| rng.number()).collect::<Vec<u64>>()
+    };
+    assert_eq!(numbers(0), numbers(0));
+    assert_ne!(numbers(0), numbers(1));
+    let mut rng = Rng::new(5);
+    let mut seen = [0; 10];
+    (0..1_000).for_each(|_| seen[rng.below(10) as usize] += 1);
+    assert!(seen.iter().all(|&times| times > 50));
+}

@@ -1,0 +1,114 @@
+//! `tapermoss address`: one block, named in each of the four ways.
+
+use clap::{Args, ValueEnum};
+use perq::{Drive, Refusal, Words};
+use std::error::Error;
+use std::fmt::Display;
+
+pub const EXAMPLES: &str = "\
+Examples:
+  tapermoss address --drive 1 lbn 210
+  tapermoss address --drive 1 pda 000400 000000
+  tapermoss address --drive micropolis35 lda 127400 140417
+  tapermoss address --drive floppy fileid 57775";
+
+#[derive(Args)]
+pub struct Arguments {
+    /// The drive: 0 or shugart12, 1 or shugart24, 2 or micropolis35, 3 or floppy
+    #[arg(long, value_parser = drive)]
+    drive: Drive,
+    /// How the block is named
+    kind: Kind,
+    /// An LBN or a FileID in decimal; the low word of an address in octal
+    #[arg(value_name = "NUMBER")]
+    first: String,
+    /// The high word of an address in octal
+    #[arg(value_name = "HIGH")]
+    second: Option<String>,
+}
+
+#[derive(Clone, Copy, ValueEnum)]
+enum Kind {
+    /// A logical block number
+    Lbn,
+    /// A physical disk address
+    Pda,
+    /// A logical disk address
+    Lda,
+    /// A FileID
+    Fileid,
+}
+
+fn drive(text: &str) -> Result<Drive, String> {
+    let names = ["shugart12", "shugart24", "micropolis35", "floppy"];
+    let by_name = names.iter().position(|&name| name == text).map(|place| Drive::ALL[place]);
+    let by_number = || text.parse().ok().and_then(Drive::from_number);
+    by_name.or_else(by_number).ok_or_else(|| format!("it is 0 to 3 or one of {}", names.join(", ")))
+}
+
+/// A block with its other names; a FileID is refused for blocks that have none.
+pub struct Names {
+    pub lbn: u32,
+    pub pda: Words,
+    pub lda: Words,
+    pub fileid: Result<u32, Refusal>,
+}
+
+pub fn names(drive: Drive, lbn: u32) -> Result<Names, Refusal> {
+    Ok(Names {
+        lbn,
+        pda: Words(perq::lbn_to_pda(drive, lbn)?),
+        lda: Words(perq::lbn_to_lda(drive, lbn)?),
+        fileid: perq::lbn_to_fileid(drive, lbn),
+    })
+}
+
+/// A value, or the number of the refusal.
+pub fn or_refusal<T: Display>(value: &Result<T, Refusal>) -> String {
+    match value {
+        Ok(value) => value.to_string(),
+        Err(refusal) => format!("refused ({})", refusal.number()),
+    }
+}
+
+/// The block that the arguments name.
+fn block(arguments: &Arguments) -> Result<u32, Box<dyn Error>> {
+    let Arguments { drive, kind, ref first, ref second } = *arguments;
+    Ok(match (kind, second) {
+        (Kind::Lbn, None) => decimal(first)?,
+        (Kind::Fileid, None) => perq::fileid_to_lbn(drive, decimal(first)?)?,
+        (Kind::Pda, Some(high)) => perq::pda_to_lbn(drive, octal(first, high)?)?,
+        (Kind::Lda, Some(high)) => perq::lda_to_lbn(drive, octal(first, high)?)?,
+        (Kind::Lbn | Kind::Fileid, Some(_)) => usage("an LBN or a FileID is one number"),
+        (Kind::Pda | Kind::Lda, None) => usage("an address is two words: low and high"),
+    })
+}
+
+fn decimal(text: &str) -> Result<u32, Box<dyn Error>> {
+    Ok(text.parse().unwrap_or_else(|_| usage(&format!("{text} is not a decimal number"))))
+}
+
+fn octal(low: &str, high: &str) -> Result<u32, Box<dyn Error>> {
+    let word = |text: &str| {
+        u16::from_str_radix(text, 8)
+            .unwrap_or_else(|_| usage(&format!("{text} is not a word in octal")))
+    };
+    Ok(u32::from(word(low)) + 65_536 * u32::from(word(high)))
+}
+
+/// Ends the program over a wrong use, as clap does for those that it sees.
+fn usage(problem: &str) -> ! {
+    eprintln!("error: {problem}\n\nFor more information, try 'tapermoss address --help'");
+    std::process::exit(2)
+}
+
+pub fn run(arguments: &Arguments) -> Result<(), Box<dyn Error>> {
+    let drive = arguments.drive;
+    let names = names(drive, block(arguments)?)?;
+    println!("drive   {} ({drive})", drive.number());
+    println!("LBN     {}", names.lbn);
+    println!("PDA     {} O", names.pda);
+    println!("LDA     {} O", names.lda);
+    println!("FileID  {}", or_refusal(&names.fileid));
+    Ok(())
+}

@@ -1,0 +1,111 @@
+//! fuzz SECONDS: random calls on random and damaged images for so long. The library is lent memory with a trap on either
+//! side, and every answer, image and buffer is compared with the reference's. The run is one test: its last line is
+//! '1 passed, 0 failed'. A difference ends it, and TAPERMOSS_SEED starts it again from the same round.
+
+use reference::sample::Rng;
+use std::env;
+use std::fs::File;
+use std::os::unix::fs::FileExt;
+use std::time::{Duration, Instant, SystemTime, UNIX_EPOCH};
+use trials::both::told;
+use trials::call::{on_library, on_reference, Call, Name};
+use trials::damage::damage;
+use trials::draw::{self, candidates};
+use trials::guard::{Guarded, Side};
+use trials::images::{set_pair, shuffled, some_lengths, Place, DATA_WORD};
+
+const RECORD: usize = 528;
+const MOST_RECORDS: usize = 420;
+const CALLS: u32 = 30;
+
+/// The calls that this build has from the library.
+fn names() -> Vec<Name> {
+    let all = Name::CONVERSIONS.into_iter().chain(Name::READING).chain(Name::CHANGING);
+    all.filter(|name| name.group().exported()).collect()
+}
+
+/// Mostly a sound partition with some damage, at times bytes of no meaning under a good partition block.
+fn some_image(rng: &mut Rng) -> (Place, Vec<u8>) {
+    let most = if rng.below(10) == 0 { MOST_RECORDS as u32 } else { 30 };
+    let n = 3 + rng.below(most - 3);
+    let place = Place { drive: rng.below(4), n, s: 1, e: n - 1 };
+    let mut image = shuffled(&place, &some_lengths(&place, 5, rng), rng);
+    for _ in 0..rng.below(4) {
+        damage(&mut image, &place, rng);
+    }
+    if rng.below(20) == 0 {
+        rng.fill(&mut image);
+        set_pair(&mut image, place.s, DATA_WORD + 118, place.lda(place.s));
+        set_pair(&mut image, place.s, DATA_WORD + 120, place.lda(place.e));
+    }
+    (place, image)
+}
+
+/// The memory that the library is lent, one piece for each slice that a call can take.
+struct Room {
+    image: Guarded,
+    repaired: Guarded,
+    buffer: Guarded,
+}
+
+impl Room {
+    fn new() -> Room {
+        let new = || Guarded::new(RECORD * (MOST_RECORDS + 4));
+        Room { image: new(), repaired: new(), buffer: new() }
+    }
+
+    /// Makes a call on the library in guarded memory and on the reference, and compares. Both images are left changed.
+    fn compare(&mut self, call: &Call, image: &mut [u8], repaired: &[u8], rng: &mut Rng) {
+        let side = if rng.below(2) == 0 { Side::Start } else { Side::End };
+        let lent = self.image.lend(image, side);
+        let buffer = self.buffer.lend(&call.buffer, side);
+        let second = self.repaired.lend(repaired, side);
+        let ours = on_library(call, lent, second, buffer).expect("only exported calls are drawn");
+        let mut expected = call.buffer.clone();
+        let theirs = on_reference(call, image, repaired, &mut expected);
+        assert_eq!(ours, theirs, "the answers to {}", told(call));
+        assert!(lent == image && second == repaired, "the images after {}", told(call));
+        assert!(*buffer == *expected, "the buffers after {}", told(call));
+    }
+}
+
+/// One image and some calls on it, one after the other; once in a while its length is that of no image.
+fn round(names: &[Name], room: &mut Room, rng: &mut Rng) {
+    let (place, mut image) = some_image(rng);
+    let mut repaired = image.clone();
+    damage(&mut repaired, &place, rng);
+    let length = match rng.below(30) {
+        0 => rng.below(image.len() as u32) as usize,
+        _ => image.len(),
+    };
+    for _ in 0..CALLS {
+        let files = candidates(&image, &place);
+        let call = draw::call(names, &image, &place, &files, rng);
+        room.compare(&call, &mut image[..length], &repaired, rng);
+    }
+}
+
+fn main() {
+    let seconds =
+        env::args().nth(1).and_then(|text| text.parse().ok()).expect("usage: fuzz SECONDS");
+    let clock =
+        SystemTime::now().duration_since(UNIX_EPOCH).map_or(0, |time| time.as_nanos() as u64);
+    let first: u64 =
+        env::var("TAPERMOSS_SEED").ok().and_then(|text| text.parse().ok()).unwrap_or(clock);
+    let (names, mut room, start) = (names(), Room::new(), Instant::now());
+    println!("fuzz: {} calls for {seconds} seconds", names.len());
+    let note = File::create("build/fuzz.seed")
+        .expect("build/ is there: this runs at the top of the repository");
+    let mut rounds: u64 = 0;
+    while start.elapsed() < Duration::from_secs(seconds) {
+        let seed = first.wrapping_add(rounds);
+        // Written before the round, so that a trap leaves it behind as well.
+        note.write_all_at(format!("{seed:20}\n").as_bytes(), 0)
+            .expect("build/fuzz.seed is written");
+        round(&names, &mut room, &mut Rng::new(seed));
+        rounds += 1;
+    }
+    let calls = rounds * u64::from(CALLS);
+    println!("fuzz: {calls} calls on {rounds} images, all as the reference has them");
+    println!("1 passed, 0 failed");
+}

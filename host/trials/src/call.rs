@@ -1,0 +1,201 @@
+//! A call of perq.h as a value: it is drawn at random, read from a file or written out in a test, and then made on the
+//! library or on the reference.
+
+use perq::raw;
+use reference::Answer;
+
+/// The calls, in the order of perq.h.
+#[derive(Clone, Copy, Debug, PartialEq, Eq, Hash)]
+pub enum Name {
+    LbnToPda,
+    PdaToLbn,
+    LbnToLda,
+    LdaToLbn,
+    LbnToFileid,
+    FileidToLbn,
+    Check,
+    NextFile,
+    Read,
+    Show,
+    ShowPair,
+    Description,
+    Extract,
+    Create,
+    Write,
+    Describe,
+    Destroy,
+    Repair,
+}
+
+/// The groups in which the library exports its calls.
+#[derive(Clone, Copy, Debug, PartialEq, Eq)]
+pub enum Group {
+    Conversions,
+    Reading,
+    Changing,
+}
+
+impl Group {
+    /// Whether this build has the group from the library.
+    pub fn exported(self) -> bool {
+        match self {
+            Group::Conversions => true,
+            Group::Reading => cfg!(feature = "reading"),
+            Group::Changing => cfg!(feature = "changing"),
+        }
+    }
+}
+
+impl Name {
+    pub const CONVERSIONS: [Name; 6] = [
+        Name::LbnToPda,
+        Name::PdaToLbn,
+        Name::LbnToLda,
+        Name::LdaToLbn,
+        Name::LbnToFileid,
+        Name::FileidToLbn,
+    ];
+    pub const READING: [Name; 7] = [
+        Name::Check,
+        Name::NextFile,
+        Name::Read,
+        Name::Show,
+        Name::ShowPair,
+        Name::Description,
+        Name::Extract,
+    ];
+    pub const CHANGING: [Name; 5] =
+        [Name::Create, Name::Write, Name::Describe, Name::Destroy, Name::Repair];
+
+    pub fn group(self) -> Group {
+        if Name::CONVERSIONS.contains(&self) {
+            Group::Conversions
+        } else if Name::READING.contains(&self) {
+            Group::Reading
+        } else {
+            Group::Changing
+        }
+    }
+}
+
+/// A call with its arguments. Every argument that any call has is here; a call looks only at its own.
+#[derive(Clone, Debug, PartialEq, Eq)]
+pub struct Call {
+    pub name: Name,
+    pub drive: u32,
+    pub s: u32,
+    pub f: u32,
+    pub r: u32,
+    /// A conversion's number, what next_file goes on after, or create's kind.
+    pub number: u32,
+    pub limit: u32,
+    /// The caller's buffer before the call.
+    pub buffer: Vec<u8>,
+}
+
+impl Call {
+    /// A call whose further arguments are 0, its limit the largest.
+    pub fn new(name: Name, drive: u32, s: u32) -> Call {
+        Call { name, drive, s, f: 0, r: 0, number: 0, limit: u32::MAX, buffer: Vec::new() }
+    }
+
+    pub fn conversion(name: Name, drive: u32, number: u32) -> Call {
+        Call::new(name, drive, 0).with_number(number)
+    }
+
+    pub fn with_file(self, f: u32) -> Call {
+        Call { f, ..self }
+    }
+
+    pub fn with_block(self, r: u32) -> Call {
+        Call { r, ..self }
+    }
+
+    pub fn with_number(self, number: u32) -> Call {
+        Call { number, ..self }
+    }
+
+    pub fn with_limit(self, limit: u32) -> Call {
+        Call { limit, ..self }
+    }
+
+    pub fn with_buffer(self, buffer: &[u8]) -> Call {
+        Call { buffer: buffer.to_vec(), ..self }
+    }
+}
+
+/// Makes a call on one side; both have the same functions.
+macro_rules! conversion {
+    ($side:ident, $call:ident) => {
+        match $call.name {
+            Name::LbnToPda => $side::lbn_to_pda($call.drive, $call.number),
+            Name::PdaToLbn => $side::pda_to_lbn($call.drive, $call.number),
+            Name::LbnToLda => $side::lbn_to_lda($call.drive, $call.number),
+            Name::LdaToLbn => $side::lda_to_lbn($call.drive, $call.number),
+            Name::LbnToFileid => $side::lbn_to_fileid($call.drive, $call.number),
+            Name::FileidToLbn => $side::fileid_to_lbn($call.drive, $call.number),
+            other => unreachable!("{other:?} is no conversion"),
+        }
+    };
+}
+
+macro_rules! reading {
+    ($side:ident, $call:ident, $image:ident, $repaired:ident, $buffer:ident) => {{
+        let Call { drive, s, f, r, number, .. } = *$call;
+        match $call.name {
+            Name::Check => $side::check($image, drive, s),
+            Name::NextFile => $side::next_file($image, drive, s, number),
+            Name::Read => $side::read($image, drive, s, f, r, $buffer),
+            Name::Show => $side::show($image, drive, s, f, r),
+            Name::ShowPair => $side::show_pair($image, $repaired, drive, s, f, r),
+            Name::Description => $side::description($image, drive, s, f, $buffer),
+            Name::Extract => $side::extract($image, drive, s, f, $buffer),
+            other => unreachable!("{other:?} does not read"),
+        }
+    }};
+}
+
+macro_rules! changing {
+    ($side:ident, $call:ident, $image:ident, $buffer:ident) => {{
+        let Call { drive, s, f, r, number, limit, .. } = *$call;
+        match $call.name {
+            Name::Create => $side::create($image, drive, s, number as u16, limit),
+            Name::Write => $side::write($image, drive, s, f, r, $buffer, limit),
+            Name::Describe => $side::describe($image, drive, s, f, $buffer, limit),
+            Name::Destroy => $side::destroy($image, drive, s, f, limit),
+            Name::Repair => $side::repair($image, drive, s, limit),
+            other => unreachable!("{other:?} does not change"),
+        }
+    }};
+}
+
+/// Makes a call on the library, on an image and a buffer that the caller lends; `repaired` is the second image of a
+/// pair. None if this build does not have the call.
+pub fn on_library(
+    call: &Call,
+    image: &mut [u8],
+    repaired: &[u8],
+    buffer: &mut [u8],
+) -> Option<Answer> {
+    let _ = (&image, &repaired, &buffer);
+    let answer = match call.name.group() {
+        Group::Conversions => conversion!(raw, call),
+        #[cfg(feature = "reading")]
+        Group::Reading => reading!(raw, call, image, repaired, buffer),
+        #[cfg(feature = "changing")]
+        Group::Changing => changing!(raw, call, image, buffer),
+        #[allow(unreachable_patterns)]
+        _ => return None,
+    };
+    let raw::Answer { outcome, number, block, made, a, b, c } = answer;
+    Some(Answer { outcome, number, block, made, a, b, c })
+}
+
+/// Makes a call on the reference.
+pub fn on_reference(call: &Call, image: &mut [u8], repaired: &[u8], buffer: &mut [u8]) -> Answer {
+    match call.name.group() {
+        Group::Conversions => conversion!(reference, call),
+        Group::Reading => reading!(reference, call, image, repaired, buffer),
+        Group::Changing => changing!(reference, call, image, buffer),
+    }
+}

@@ -1,0 +1,17 @@
+//! What the tests, the benchmark and the fuzz run share: a call of perq.h as a value that is made on the library and on
+//! the reference, and the images, damages and random draws that it is made with.
+
+#![deny(unsafe_code)]
+
+pub mod both;
+pub mod call;
+pub mod cuts;
+pub mod damage;
+pub mod draw;
+#[allow(unsafe_code)]
+pub mod guard;
+pub mod images;
+pub mod settings;
+pub mod sweep;
+pub mod tally;
+pub mod worked;

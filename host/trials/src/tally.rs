@@ -1,0 +1,65 @@
+//! Which outcomes a run of random calls has met, so that a test can say that it met them all.
+
+use crate::call::{Call, Name};
+use reference::{Answer, ABSENT, DONE, REFUSED};
+use std::collections::BTreeMap;
+
+/// How often each call had each outcome: 0 for done, the number for refused, `NONE` for absent.
+#[derive(Clone, Debug, Default)]
+pub struct Tally(BTreeMap<(String, u32), u64>);
+
+/// The outcome absent in a tally, where a refusal has its number and done is 0.
+pub const NONE: u32 = 100;
+
+impl Tally {
+    pub fn add(&mut self, call: &Call, answer: Answer) {
+        let outcome = match answer.outcome {
+            ABSENT => NONE,
+            DONE => 0,
+            _ => answer.number,
+        };
+        *self.0.entry((format!("{:?}", call.name), outcome)).or_default() += 1;
+    }
+
+    /// Asserts that every outcome that these calls have was met.
+    pub fn must_have_all(&self, names: &[Name]) {
+        for &name in names {
+            for outcome in outcomes(name) {
+                let met = self.0.contains_key(&(format!("{name:?}"), outcome));
+                assert!(met, "{name:?} never had outcome {outcome}: {:?}", self.0);
+            }
+        }
+    }
+}
+
+/// The refusals of a call in the order in which they are given.
+pub fn refusals(name: Name) -> &'static [u32] {
+    match name {
+        Name::Check => &[1, 2, 4, 5],
+        Name::NextFile => &[1, 2],
+        Name::Read => &[1, 2, 3, 6, 4, 7],
+        Name::Show | Name::ShowPair => &[1, 2, 6, 4, 7],
+        Name::Description => &[1, 2, 3, 6, 4],
+        Name::Extract => &[1, 2, 6, 4, 3],
+        Name::Create => &[1, 2, 4, 5, 8],
+        Name::Write => &[1, 2, 3, 4, 5, 6, 7, 8],
+        Name::Describe => &[1, 2, 3, 4, 5, 6],
+        Name::Destroy => &[1, 2, 4, 5, 6],
+        Name::Repair => &[1, 2, 4, 9],
+        _ => &[1, 10],
+    }
+}
+
+fn outcomes(name: Name) -> Vec<u32> {
+    let mut outcomes = refusals(name).to_vec();
+    outcomes.push(0);
+    if matches!(name, Name::NextFile | Name::Read | Name::Show | Name::ShowPair) {
+        outcomes.push(NONE);
+    }
+    outcomes
+}
+
+/// Whether an answer is this refusal.
+pub fn is_refusal(answer: Answer, number: u32) -> bool {
+    (answer.outcome, answer.number) == (REFUSED, number)
+}

@@ -1,0 +1,66 @@
+/* perq.h: the C interface of the library, fixed so that every host (C, Rust, Python) and every test
+ * sees the same calls. Each is a thin exported function over the proved library; each has a contract.
+ *
+ * An image is a caller's buffer of n records of 528 bytes in LBN order. `drive` is 0..3, `s` names the
+ * partition by its first block, `f` a file by the LBN of its FIB, `r` a relative block number.
+ * An address of two words is one number: low word + 65536 * high word.
+ * Nothing is stored and no buffer is touched under any refusal.
+ */
+#ifndef PERQ_H
+#define PERQ_H
+#include <stddef.h>
+#include <stdint.h>
+
+enum { PERQ_DONE = 0, PERQ_ABSENT = 1, PERQ_REFUSED = 2 };
+
+/* A field that a call does not speak of is 0. */
+typedef struct perq_answer {
+    uint32_t outcome; /* PERQ_DONE, PERQ_ABSENT or PERQ_REFUSED                          */
+    uint32_t number;  /* when refused: the number in document 01                         */
+    uint32_t block;   /* when refused by 4: the LBN of the malformed candidate           */
+    uint32_t made;    /* changing calls: how many stores were made                       */
+    uint32_t a, b, c; /* the call's values, below                                        */
+} perq_answer;
+
+/* Conversions: a = the converted number. */
+perq_answer perq_lbn_to_pda(uint32_t drive, uint32_t lbn);
+perq_answer perq_pda_to_lbn(uint32_t drive, uint32_t pda);
+perq_answer perq_lbn_to_lda(uint32_t drive, uint32_t lbn);
+perq_answer perq_lda_to_lbn(uint32_t drive, uint32_t lda);
+perq_answer perq_lbn_to_fileid(uint32_t drive, uint32_t lbn);
+perq_answer perq_fileid_to_lbn(uint32_t drive, uint32_t fileid);
+
+/* a = files, b = owned blocks, c = free blocks. */
+perq_answer perq_check(const uint8_t *image, size_t length, uint32_t drive, uint32_t s);
+/* a = the lowest file above `after`; PERQ_ABSENT if there is none. */
+perq_answer perq_next_file(const uint8_t *image, size_t length, uint32_t drive, uint32_t s, uint32_t after);
+/* Fills the 512-byte buffer: PERQ_DONE with the block's bytes, PERQ_ABSENT with zeros. */
+perq_answer perq_read(const uint8_t *image, size_t length, uint32_t drive, uint32_t s, uint32_t f, uint32_t r,
+                      uint8_t *buffer, size_t buffer_length);
+/* PERQ_DONE: a = the offset in the image of the block's bytes, b = 512. */
+perq_answer perq_show(const uint8_t *image, size_t length, uint32_t drive, uint32_t s, uint32_t f, uint32_t r);
+/* As perq_show; c = 1 if the answer is the repaired image's, 2 if it is the original's (refusals too). */
+perq_answer perq_show_pair(const uint8_t *original, size_t original_length,
+                           const uint8_t *repaired, size_t repaired_length,
+                           uint32_t drive, uint32_t s, uint32_t f, uint32_t r);
+/* Copies the 104 bytes of the description out. */
+perq_answer perq_description(const uint8_t *image, size_t length, uint32_t drive, uint32_t s, uint32_t f,
+                             uint8_t *buffer, size_t buffer_length);
+
+/* Changing calls: only the first `limit` stores are made; made says how many; the rest of the answer
+ * is that of the whole call. */
+/* a = the LBN of the new file. */
+perq_answer perq_create(uint8_t *image, size_t length, uint32_t drive, uint32_t s, uint16_t kind, uint32_t limit);
+perq_answer perq_write(uint8_t *image, size_t length, uint32_t drive, uint32_t s, uint32_t f, uint32_t r,
+                       const uint8_t *buffer, size_t buffer_length, uint32_t limit);
+perq_answer perq_describe(uint8_t *image, size_t length, uint32_t drive, uint32_t s, uint32_t f,
+                          const uint8_t *buffer, size_t buffer_length, uint32_t limit);
+perq_answer perq_destroy(uint8_t *image, size_t length, uint32_t drive, uint32_t s, uint32_t f, uint32_t limit);
+perq_answer perq_repair(uint8_t *image, size_t length, uint32_t drive, uint32_t s, uint32_t limit);
+
+/* An addition to the fixed interface above: the whole file at once. The buffer is exactly 512 * (L + 1) bytes;
+ * refused as perq_read is (1, 2, 6, 4), then by 3 for a buffer of another length. PERQ_DONE: a = L + 1. */
+perq_answer perq_extract(const uint8_t *image, size_t length, uint32_t drive, uint32_t s, uint32_t f,
+                         uint8_t *buffer, size_t buffer_length);
+
+#endif
