@@ -1,12 +1,14 @@
 // The library's calls as include/perq.h declares them. Each is thin: the call itself stands in a crate below, with the same contract.
 ghost use mathlib.Core.Path.{_≡_};
 ghost use Prim.Native.Nat.{_<_};
-ghost use Rattle.base.specs.Refusals.{culprit};
+ghost use Rattle.base.specs.Refusals.{number, culprit};
 ghost use Rattle.drive.specs.Answers.{lbnToPda, pdaToLbn, lbnToLda, ldaToLbn, lbnToFileId, fileIdToLbn};
 ghost use Rattle.drive.specs.Fits.{Fits};
-ghost use Rattle.perq.specs.Flat.{done, refused, flatConverted};
+ghost use Rattle.perq.specs.Fits.{OutcomeFits};
+ghost use Rattle.perq.specs.Flat.{answer, flatConverted, flat, flatFrom};
 use base::Refusal;
 use drive::Converted;
+use volume::Outcome;
 
 // An answer as seven numbers: see include/perq.h.
 #[repr(C)]
@@ -27,35 +29,35 @@ fn narrow(x: usize) -> u32
     x as u32
 }
 
-// A call that is done, with its values.
-fn done(a: usize, b: usize, c: usize) -> PerqAnswer
-    requires { ⌜ (a < 4294967296) × (b < 4294967296) × (c < 4294967296) ⌝ }
-    ensures { λ r. ⌜ r ≡ done 0 a b c ⌝ }
-{
-    PerqAnswer {
-        outcome: 0,
-        number: 0,
-        block: 0,
-        made: 0,
-        a: narrow(a),
-        b: narrow(b),
-        c: narrow(c),
-    }
-}
-
-// A call that is refused.
-fn refused(why: Refusal) -> PerqAnswer
-    requires { ⌜ culprit why < 4294967296 ⌝ }
-    ensures { λ r. ⌜ r ≡ refused why ⌝ }
+// A call that is refused, after so many stores, by a pair's image or not.
+fn refused(why: Refusal, made: usize, image: usize) -> PerqAnswer
+    requires { ⌜ (culprit why < 4294967296) × (made < 4294967296) × (image < 4294967296) ⌝ }
+    ensures { λ r. ⌜ r ≡ answer 2 (number why) (culprit why) made 0 0 image ⌝ }
 {
     PerqAnswer {
         outcome: 2,
         number: base::number(why),
         block: narrow(base::culprit(why)),
-        made: 0,
+        made: narrow(made),
         a: 0,
         b: 0,
-        c: 0,
+        c: narrow(image),
+    }
+}
+
+// A call that is not refused, with its values.
+fn came_to(outcome: u32, made: usize, a: usize, b: usize, c: usize) -> PerqAnswer
+    requires { ⌜ (made < 4294967296) × (a < 4294967296) × (b < 4294967296) × (c < 4294967296) ⌝ }
+    ensures { λ r. ⌜ r ≡ answer outcome 0 0 made a b c ⌝ }
+{
+    PerqAnswer {
+        outcome: outcome,
+        number: 0,
+        block: 0,
+        made: narrow(made),
+        a: narrow(a),
+        b: narrow(b),
+        c: narrow(c),
     }
 }
 
@@ -65,8 +67,32 @@ fn converted(x: Converted) -> PerqAnswer
     ensures { λ r. ⌜ r ≡ flatConverted x ⌝ }
 {
     match x {
-        Converted::Number(n) => done(n, 0, 0),
-        Converted::Refused(why) => refused(why),
+        Converted::Number(n) => came_to(0, 0, n, 0, 0),
+        Converted::Refused(why) => refused(why, 0, 0),
+    }
+}
+
+// The answer of any other call, which made so many stores.
+fn flat(made: usize, x: Outcome) -> PerqAnswer
+    requires { ⌜ (made < 4294967296) × (OutcomeFits x) ⌝ }
+    ensures { λ r. ⌜ r ≡ flat made x ⌝ }
+{
+    match x {
+        Outcome::Done(a, b, c) => came_to(0, made, a, b, c),
+        Outcome::Absent => came_to(1, made, 0, 0, 0),
+        Outcome::Refused(why) => refused(why, made, 0),
+    }
+}
+
+// The answer of show of a pair, which `image` gave.
+fn flat_from(image: usize, x: Outcome) -> PerqAnswer
+    requires { ⌜ (image < 4294967296) × (OutcomeFits x) ⌝ }
+    ensures { λ r. ⌜ r ≡ flatFrom image x ⌝ }
+{
+    match x {
+        Outcome::Done(a, b, _) => came_to(0, 0, a, b, image),
+        Outcome::Absent => came_to(1, 0, 0, 0, image),
+        Outcome::Refused(why) => refused(why, 0, image),
     }
 }
 
