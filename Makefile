@@ -19,15 +19,19 @@ help:
 	@echo 'make bench    the library against the reference, as a table of ratios'
 	@echo 'make fuzz SECONDS=60   every call on random and damaged images, between pages that trap'
 	@echo 'make clean    remove what was built'
+	@echo 'TAPERMOSS_CASES=1000000 make test   the same with so many random cases in each random test'
 
 setup:
 	@tools/setup
 
-# The proved library. An archive that has not changed keeps its date, so that nothing is linked again for it.
-library: setup
-	@rt staticlib perq
+# The proved library, proved and built again when a file of it has changed.
+library: setup build/libperq.a
+
+build/libperq.a: crates.txt $(shell find crates 2>/dev/null)
 	@mkdir -p build
-	@cmp -s target/staticlib/libperq.a build/libperq.a || cp target/staticlib/libperq.a build/libperq.a
+	@echo 'proving and building the library; build/library.log has what the prover says'
+	@rt staticlib perq >build/library.log 2>&1 || { cat build/library.log; exit 1; }
+	@cp target/staticlib/libperq.a $@
 
 tool: library
 	@cd host && cargo build --offline --quiet --release -p tapermoss --no-default-features --features "$(FEATURES)"

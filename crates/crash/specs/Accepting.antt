@@ -32,6 +32,8 @@ use Rattle.volume.specs.declared.Outcome.{Outcome}
 use Rattle.volume.specs.declared.Outcome.the-variants.{Refused}
 use Rattle.crash.specs.Fitting.{words-of}
 use Rattle.crash.specs.Settled.{Settled, refused, create-settled, describe-settled, destroy-settled, write-settled, repair-settled}
+use Rattle.crash.specs.SameFile.{SameFiles}
+use Rattle.crash.specs.Effect.{Effect}
 use Rattle.crash.specs.Held.{Held, placed}
 use Rattle.crash.specs.Statement.{Proper, isDone, Accepted}
 
@@ -110,11 +112,11 @@ module _ {d s e : ℕ} {l : List ℕ} (h : Held d s e l) where
       ap (λ (x : Part). calls.inPartition x (λ e. let ρ = partitionOf d s e in pick fits (unmarred (lowestMalformed ρ v₂) (pick (sound ρ v₂) (k ρ) (refuse Unsound))) (refuse BadBuffer))) (h .good)
       ∙ ap₂ (λ (m : Found) (t : Bool). pick fits (unmarred m (pick t (k π₂) (refuse Unsound))) (refuse BadBuffer)) (clean-unmarred π₂ v₂ (sound-clean π₂ v₂ ok)) ok
 
-  through-settled : sound (partitionOf d s e) (view l) ≡ true → (f : ℕ) (fits : Bool) (k : Partition → Planned) → (fits ≡ true → Settled (partitionOf d s e) (view l) f (k (partitionOf d s e)))
-      → Settled (partitionOf d s e) (view l) f (through d l s fits k)
-  through-settled ok f fits k q = subst (Settled π₂ v₂ f) (sym (through-is ok fits k)) (go fits q)
+  through-settled : sound (partitionOf d s e) (view l) ≡ true → {f : ℕ} {E : View → Type 0} (fits : Bool) (k : Partition → Planned) → (fits ≡ true → Settled (partitionOf d s e) (view l) f E (k (partitionOf d s e)))
+      → Settled (partitionOf d s e) (view l) f E (through d l s fits k)
+  through-settled ok {f} {E} fits k q = subst (Settled π₂ v₂ f E) (sym (through-is ok fits k)) (go fits q)
     where
-      go : (t : Bool) → (t ≡ true → Settled π₂ v₂ f (k π₂)) → Settled π₂ v₂ f (pick t (k π₂) (refuse BadBuffer))
+      go : (t : Bool) → (t ≡ true → Settled π₂ v₂ f E (k π₂)) → Settled π₂ v₂ f E (pick t (k π₂) (refuse BadBuffer))
       go true q = q refl
       go false q = refused BadBuffer
 
@@ -133,13 +135,13 @@ module _ {d s e : ℕ} {l : List ℕ} (h : Held d s e l) where
       ∙ ap (λ (m : Found). unmarred m (repairIn π₂ v₂)) (clean-unmarred π₂ v₂ c)
 
   -- every call
-  pub settled : sound (partitionOf d s e) (view l) ≡ true → (c : Call) → Proper c → Settled (partitionOf d s e) (view l) (block c) (planned d l s c)
+  pub settled : sound (partitionOf d s e) (view l) ≡ true → (c : Call) → Proper c → Settled (partitionOf d s e) (view l) (block c) (Effect (partitionOf d s e) c (view l)) (planned d l s c)
   unfolding planned
-  settled ok (create kind) k = through-settled ok (freeHead π₂ v₂) true (λ ρ. createIn ρ v₂ kind) (λ _. create-settled π₂ v₂ (placed h) ok kind k)
-  settled ok (write f r bytes) k = through-settled ok f (eqb (length bytes) 512) (λ ρ. writeIn ρ v₂ f r (words bytes)) (λ q. write-settled π₂ v₂ (placed h) ok f r (words bytes) (words-of 256 bytes k (eqb-true _ _ q)))
-  settled ok (describe f text) k = through-settled ok f (eqb (length text) 104) (λ ρ. describeIn ρ v₂ f (words text)) (λ q. describe-settled π₂ v₂ (placed h) ok f (words text) (words-of 52 text k (eqb-true _ _ q)))
-  settled ok (destroy f) k = through-settled ok f true (λ ρ. destroyIn ρ v₂ f) (λ _. destroy-settled π₂ v₂ (placed h) ok f)
-  settled ok repair k = subst (Settled π₂ v₂ 0) (sym (repair-through (sound-clean π₂ v₂ ok))) (repair-settled π₂ v₂ (placed h) ok)
+  settled ok (create kind) k = through-settled ok true (λ ρ. createIn ρ v₂ kind) (λ _. create-settled π₂ v₂ (placed h) ok kind k)
+  settled ok (write f r bytes) k = through-settled ok (eqb (length bytes) 512) (λ ρ. writeIn ρ v₂ f r (words bytes)) (λ q. write-settled π₂ v₂ (placed h) ok f r (words bytes) (words-of 256 bytes k (eqb-true _ _ q)))
+  settled ok (describe f text) k = through-settled ok (eqb (length text) 104) (λ ρ. describeIn ρ v₂ f (words text)) (λ q. describe-settled π₂ v₂ (placed h) ok f (words text) (words-of 52 text k (eqb-true _ _ q)))
+  settled ok (destroy f) k = through-settled ok true (λ ρ. destroyIn ρ v₂ f) (λ _. destroy-settled π₂ v₂ (placed h) ok f)
+  settled ok repair k = subst (Settled π₂ v₂ 0 (SameFiles π₂ v₂)) (sym (repair-through (sound-clean π₂ v₂ ok))) (repair-settled π₂ v₂ (placed h) ok)
 
   -- repair, where no candidate is malformed and a block is not owned
   pub repair-is : Clean (partitionOf d s e) (view l) → unowned (partitionOf d s e) (view l) ≢ [] → planned d l s repair ≡ finish 0 (repairPlan (partitionOf d s e) (view l))

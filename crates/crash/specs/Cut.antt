@@ -14,6 +14,7 @@ use Rattle.frame.specs.Repair.{mid-agree}
 use Rattle.frame.specs.Restart.{Part, start, again, finish}
 use Rattle.frame.specs.Mended.{sound-is, mended-agree}
 use Rattle.frame.specs.Turn.{Each, each-take, after-append, cut-early, cut-late, Calm, calm-agree, Turn, turn-clean}
+
 use Rattle.crash.specs.SameFile.{SameFile, SameFiles, file-trans, file-sym, agree-same, turn-same}
 
 -- ---- a run of stores with a deciding one x: those before it change no file, it changes f alone, the rest change no file

@@ -17,9 +17,12 @@ pub mod AppendSound
 pub mod Fitting
 pub mod Lawful
 pub mod AppendLawful
+pub mod Effect
 pub mod Settled
 pub mod Stopped
 pub mod Statement
 pub mod Held
 pub mod Accepting
 pub mod Theorem
+pub mod Needed
+pub mod Laws

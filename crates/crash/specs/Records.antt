@@ -44,6 +44,10 @@ module _ (d : ℕ) (v : View) (h kind : ℕ) where
   unfolding freshFib put put2 blank
   fresh-nil w l m = simp (ne-eqb w 0 (λ z. omega arith), ne-eqb w 1 (λ z. omega arith), ne-eqb w 2 (λ z. omega arith), ne-eqb w 3 (λ z. omega arith), ne-eqb w 256 (λ z. omega arith), ne-eqb w 257 (λ z. omega arith), ne-eqb w 258 (λ z. omega arith), ne-eqb w 259 (λ z. omega arith), ne-eqb w 260 (λ z. omega arith), ne-eqb w 261 (λ z. omega arith), ne-eqb w 262 (λ z. omega arith), ne-eqb w 263 (λ z. omega arith))
 
+  pub fresh-kind : freshFib d v h kind 256 ≡ kind
+  unfolding freshFib put put2
+  fresh-kind = refl
+
 -- ---- the new first free block: links and filler alone
 pub first-links : (d : ℕ) (v : View) (g w : ℕ) → w ≢ 3 → w ≢ 6 → w ≢ 7 → newFirst d v g w ≡ v g w
 unfolding newFirst

@@ -10,7 +10,7 @@ use borrow.Author.Tests.{ltb-true, ltb-false, eqb-true, le-leb}
 use Rattle.base.specs.Tests.{pick, tabFrom}
 use Rattle.base.specs.Laws.{every-at, both-left}
 use Rattle.image.specs.View.{View, Rec, Store, after, upd}
-use Rattle.volume.specs.Files.{Partition, unowned, inside, candidate, len, free, freeHead, sound}
+use Rattle.volume.specs.Files.{Partition, unowned, inside, candidate, len, free, freeHead, sound, isFile}
 use Rattle.volume.specs.Agree.{Clean, Agree, alike, agree-unowned}
 use Rattle.volume.specs.Plans.{st, Plan, stores, createPlan, replacePlan, describePlan, destroyPlan, repairPlan, repaired, repairedPib, grows, appendPlan}
 use Rattle.frame.specs.Turn.{Each, each-append, after-append, Calm, calm-pib, calm-agree}
@@ -26,25 +26,28 @@ use Rattle.crash.specs.Lawful.{Placed, Lawful, create-lawful, describe-l
 use Rattle.crash.specs.Create.{create-good, create-sound}
 use Rattle.crash.specs.OneBlock.{describe-good, describe-sound, replace-good, replace-sound}
 use Rattle.crash.specs.Destroy.{destroy-good, destroy-sound}
+use Rattle.crash.specs.SameFile.{SameFiles}
+use Rattle.crash.specs.Effect.{Created, Written, Described, created, described, replaced, grown, removed, mended-same}
 use Rattle.crash.specs.AppendTakes.{Growing}
 use Rattle.crash.specs.AppendForm.{append-good}
 use Rattle.crash.specs.AppendSound.{append-sound}
 use Rattle.crash.specs.AppendLawful.{append-lawful}
 
--- a plan changes file f alone, at its deciding store; whole, it leaves a sound partition; each of its stores is lawful
-pub record Owes (π : Partition) (v : View) (P : Plan) (f : ℕ) : Type 0 where
+-- a plan changes file f alone, at its deciding store; whole, it leaves a sound partition, in which E holds; each of its stores is lawful
+pub record Owes (π : Partition) (v : View) (P : Plan) (f : ℕ) (E : View → Type 0) : Type 0 where
   pub good : Good π v P f
   pub whole : sound π (after (stores P) v) ≡ true
+  pub effect : E (after (stores P) v)
   pub lawful : Each (Lawful π v) (stores P)
 
-pub data Settled (π : Partition) (v : View) (f : ℕ) : Planned → Type 0 where
-  refused : (y : Refusal) → Settled π v f (refuse y)
-  done : (a : ℕ) (P : Plan) → Owes π v P f → Settled π v f (finish a P)
+pub data Settled (π : Partition) (v : View) (f : ℕ) (E : View → Type 0) : Planned → Type 0 where
+  refused : (y : Refusal) → Settled π v f E (refuse y)
+  done : (a : ℕ) (P : Plan) → Owes π v P f E → Settled π v f E (finish a P)
 
 module _ (π : Partition) (v : View) (at : Placed π v) (ok : sound π v ≡ true) where
-  either : (f : ℕ) (t : Bool) (x y : Planned) → (t ≡ true → Settled π v f x) → (t ≡ false → Settled π v f y) → Settled π v f (pick t x y)
-  either f true x y h k = h refl
-  either f false x y h k = k refl
+  either : {f : ℕ} {E : View → Type 0} (t : Bool) (x y : Planned) → (t ≡ true → Settled π v f E x) → (t ≡ false → Settled π v f E y) → Settled π v f E (pick t x y)
+  either true x y h k = h refl
+  either false x y h k = k refl
 
   leb-no : (x k : ℕ) → leb x k ≡ false → k < x
   leb-no x k h = go (ltb k x) refl
@@ -53,43 +56,43 @@ module _ (π : Partition) (v : View) (at : Placed π v) (ok : sound π v ≡ tru
       go true q = ltb-true k x q
       go false q = absurd (true≢false (sym (le-leb x k (ltb-false k x q)) ∙ h))
 
-  pub create-settled : (kind : ℕ) → kind < 65536 → Settled π v (freeHead π v) (createIn π v kind)
+  pub create-settled : (kind : ℕ) → kind < 65536 → Settled π v (freeHead π v) (λ w. Created π v w (freeHead π v) kind) (createIn π v kind)
   unfolding createIn
-  create-settled kind k = either (freeHead π v) (leb (room π v) 1) _ _ (λ _. refused Full) (λ h. done (freeHead π v) (createPlan π v kind) (owes (leb-no _ 1 h)))
+  create-settled kind k = either (leb (room π v) 1) _ _ (λ _. refused Full) (λ h. done (freeHead π v) (createPlan π v kind) (owes (leb-no _ 1 h)))
     where
-      owes : 2 ≤ length (free π v) → Owes π v (createPlan π v kind) (freeHead π v)
-      owes two = record { good = create-good π v ok two kind; whole = create-sound π v ok two kind (at .low) (at .pos); lawful = create-lawful at ok two kind k }
+      owes : 2 ≤ length (free π v) → Owes π v (createPlan π v kind) (freeHead π v) (λ w. Created π v w (freeHead π v) kind)
+      owes two = record { good = create-good π v ok two kind; whole = create-sound π v ok two kind (at .low) (at .pos); effect = created π (at .low) (at .pos) v ok kind two; lawful = create-lawful at ok two kind k }
 
-  pub describe-settled : {n : ℕ} (f : ℕ) (dat : Rec) → Words n dat → Settled π v f (describeIn π v f dat)
+  pub describe-settled : {n : ℕ} (f : ℕ) (dat : Rec) → Words n dat → Settled π v f (λ w. Described π v w f dat) (describeIn π v f dat)
   unfolding describeIn
-  describe-settled f dat k = either f (candidate π v f) _ _
-      (λ c. done 0 (describePlan π v f dat) (record { good = describe-good π v ok f c dat; whole = describe-sound π v ok f c dat (at .low); lawful = describe-lawful at ok f c dat k }))
+  describe-settled f dat k = either (candidate π v f) _ _
+      (λ c. done 0 (describePlan π v f dat) (record { good = describe-good π v ok f c dat; whole = describe-sound π v ok f c dat (at .low); effect = described π (at .low) (at .pos) v ok f c dat; lawful = describe-lawful at ok f c dat k }))
       (λ _. refused NoCandidate)
 
-  pub destroy-settled : (f : ℕ) → Settled π v f (destroyIn π v f)
+  pub destroy-settled : (f : ℕ) → Settled π v f (λ w. isFile π w f ≡ false) (destroyIn π v f)
   unfolding destroyIn
-  destroy-settled f = either f (candidate π v f) _ _
-      (λ c. done 0 (destroyPlan π v f) (record { good = destroy-good π v ok f c; whole = destroy-sound π v ok f c (at .low) (at .pos); lawful = destroy-lawful at ok f c }))
+  destroy-settled f = either (candidate π v f) _ _
+      (λ c. done 0 (destroyPlan π v f) (record { good = destroy-good π v ok f c; whole = destroy-sound π v ok f c (at .low) (at .pos); effect = removed π (at .low) (at .pos) v ok f c; lawful = destroy-lawful at ok f c }))
       (λ _. refused NoCandidate)
 
-  append-settled : (f : ℕ) (dat : Rec) → Words 256 dat → candidate π v f ≡ true → len π v f < 4160 → Settled π v f (appendIn π v f dat)
+  append-settled : (f : ℕ) (dat : Rec) → Words 256 dat → candidate π v f ≡ true → len π v f < 4160 → Settled π v f (λ w. Written π v w f (len π v f) dat) (appendIn π v f dat)
   unfolding appendIn
-  append-settled f dat k c l = either f (leb (room π v) (pick (grows π v f) 2 1)) _ _ (λ _. refused Full) (λ h. done 0 (appendPlan π v f dat) (owes (record { ok = ok; cf = c; room = l; enough = more (grows π v f) (leb-no _ _ h) })))
+  append-settled f dat k c l = either (leb (room π v) (pick (grows π v f) 2 1)) _ _ (λ _. refused Full) (λ h. done 0 (appendPlan π v f dat) (owes (record { ok = ok; cf = c; room = l; enough = more (grows π v f) (leb-no _ _ h) })))
     where
       more : (t : Bool) → pick t 2 1 < length (free π v) → pick t 3 2 ≤ length (free π v)
       more true h = h
       more false h = h
 
-      owes : Growing π v f dat → Owes π v (appendPlan π v f dat) f
-      owes G = record { good = append-good G; whole = append-sound G (at .low) (at .pos); lawful = append-lawful G at k }
+      owes : Growing π v f dat → Owes π v (appendPlan π v f dat) f (λ w. Written π v w f (len π v f) dat)
+      owes G = record { good = append-good G; whole = append-sound G (at .low) (at .pos); effect = grown π (at .low) (at .pos) v ok f c G; lawful = append-lawful G at k }
 
-  pub write-settled : (f r : ℕ) (dat : Rec) → Words 256 dat → Settled π v f (writeIn π v f r dat)
+  pub write-settled : (f r : ℕ) (dat : Rec) → Words 256 dat → Settled π v f (λ w. Written π v w f r dat) (writeIn π v f r dat)
   unfolding writeIn
-  write-settled f r dat k = either f (candidate π v f) _ _
-      (λ c. either f (ltb r 4160) _ _
-      (λ m. either f (ltb r (len π v f)) _ _
-      (λ l. let n = ltb-true r (len π v f) l in done 0 (replacePlan π v f r dat) (record { good = replace-good π v ok f c r dat n; whole = replace-sound π v ok f c r dat n (at .low); lawful = replace-lawful at ok f c r n dat k }))
-      (λ _. either f (eqb r (len π v f)) _ _ (λ e. append-settled f dat k c (omega (arith, ltb-true r 4160 m, eqb-true r (len π v f) e))) (λ _. refused BadBlock)))
+  write-settled f r dat k = either (candidate π v f) _ _
+      (λ c. either (ltb r 4160) _ _
+      (λ m. either (ltb r (len π v f)) _ _
+      (λ l. let n = ltb-true r (len π v f) l in done 0 (replacePlan π v f r dat) (record { good = replace-good π v ok f c r dat n; whole = replace-sound π v ok f c r dat n (at .low); effect = replaced π (at .low) (at .pos) v ok f c r dat n; lawful = replace-lawful at ok f c r n dat k }))
+      (λ _. either (eqb r (len π v f)) _ _ (λ e. let z = eqb-true r (len π v f) e in subst (λ (i : ℕ). Settled π v f (λ w. Written π v w f i dat) (appendIn π v f dat)) (sym z) (append-settled f dat k c (omega (arith, ltb-true r 4160 m)))) (λ _. refused BadBlock)))
       (λ _. refused BadBlock))
       (λ _. refused NoCandidate)
 
@@ -128,7 +131,7 @@ module _ (π : Partition) (v : View) (at : Placed π v) (ok : sound π v ≡ tru
       ag : Agree π v D
       ag = subst (Agree π v) (after-append xs (x ∷ []) v) (calm-agree π v clean (xs ++ (x ∷ [])) (each-append (Calm π v) xs (x ∷ []) (tab-calm (suc π.s) (π.e - π.s)) (calm-pib π v, tt)))
 
-  pub repair-settled : Settled π v 0 (repairIn π v)
+  pub repair-settled : Settled π v 0 (λ w. SameFiles π v w) (repairIn π v)
   unfolding repairIn
-  repair-settled = either 0 (eqb (length (unowned π v)) 0) _ _ (λ _. refused NothingFree)
-      (λ _. done 0 (repairPlan π v) (record { good = repair-good; whole = sound-is π v clean (spare-block π v ok) (at .low) (at .pos); lawful = repair-lawful at }))
+  repair-settled = either (eqb (length (unowned π v)) 0) _ _ (λ _. refused NothingFree)
+      (λ _. done 0 (repairPlan π v) (record { good = repair-good; whole = sound-is π v clean (spare-block π v ok) (at .low) (at .pos); effect = mended-same π (at .low) (at .pos) v ok; lawful = repair-lawful at }))

@@ -18,7 +18,7 @@ use Rattle.crash.specs.SameFile.{SameFile, file-refl}
 use Rattle.crash.specs.Cut.{Repairs, Survives, survives, cut-before, cut-after, others-same}
 use Rattle.crash.specs.Settled.{Settled, refused, done}
 
-module _ (π : Partition) (low : π.s < π.e) (pos : 0 < π.s) (v : View) (ok : sound π v ≡ true) (f : ℕ) where
+module _ (π : Partition) (low : π.s < π.e) (pos : 0 < π.s) (v : View) (ok : sound π v ≡ true) (f : ℕ) (E : View → Type 0) where
   cl : Clean π v
   cl = sound-clean π v ok
 
@@ -31,20 +31,20 @@ module _ (π : Partition) (low : π.s < π.e) (pos : 0 < π.s) (v : View) (ok : 
   none (suc k) = refl
 
   -- whole, or refused, it leaves a sound partition
-  pub whole-sound : (x : Planned) → Settled π v f x → sound π (after (x .list) v) ≡ true
+  pub whole-sound : (x : Planned) → Settled π v f E x → sound π (after (x .list) v) ≡ true
   unfolding after
   whole-sound _ (refused y) = ok
   whole-sound _ (done a P o) = o .whole
 
   -- and the other files as they were
-  pub whole-others : (x : Planned) → Settled π v f x → (g : ℕ) → g ≢ f → SameFile π v (after (x .list) v) g
+  pub whole-others : (x : Planned) → Settled π v f E x → (g : ℕ) → g ≢ f → SameFile π v (after (x .list) v) g
   unfolding after stores
   whole-others _ (refused y) g n = file-refl π v g
   whole-others _ (done a P o) g n = others-same π low pos v cl some (P .before) (P .deciding) (P .rest) f (o .good) g n
 
   -- stopped after k stores, and repaired up to u: the next repair is not refused, and ends with the files of before the call, or of the
   -- whole call if the deciding store was made
-  pub stopped-survives : (x : Planned) → Settled π v f x → (k : ℕ) {u : View} → Repairs π (after (take k (x .list)) v) u
+  pub stopped-survives : (x : Planned) → Settled π v f E x → (k : ℕ) {u : View} → Repairs π (after (take k (x .list)) v) u
       → Survives π (pick (ltb (x .deciding) k) (after (x .list) v) v) u
   unfolding after stores
   stopped-survives _ (refused y) k {u} r = go (ltb 0 k)

@@ -6,7 +6,7 @@ use mathlib.Core.Bool.{Bool, true, false, true≢false}
 use Prim.Native.Nat.{ℕ, suc, _+_, _-_, _*_, _<_}
 use native.Mathlib.Omega.{arith}
 use lib.Dec.{leb, ltb, eqb}
-use lib.ListN.{take}
+use lib.ListN.{take, length}
 use borrow.Author.Tests.{ltb-true, ltb-false, eqb-true, eqb-false}
 use Rattle.base.specs.Tests.{pick, both}
 use Rattle.base.specs.Laws.{pick-same, both-left}
@@ -27,7 +27,8 @@ use Rattle.crash.specs.Cut.{survives}
 use Rattle.crash.specs.Lawful.{Lawful, repair-lawful}
 use Rattle.crash.specs.Settled.{Settled, refused, done}
 use Rattle.crash.specs.Stopped.{whole-sound, whole-others, stopped-survives}
-use Rattle.crash.specs.Held.{Held, placed, end-is, view-after, held-after}
+use Rattle.crash.specs.Effect.{Effect}
+use Rattle.crash.specs.Held.{Held, placed, end-is, view-after, length-after, held-after}
 use Rattle.crash.specs.Accepting.{Sound, sound-accepted, accepted-sound, block, settled, repair-is}
 use Rattle.crash.specs.Statement.{Proper, AllProper, isDone, stopped, whole, runs, Repairs, none, again, here, SameContent, SameFile, named, Survives, Demand3}
 
@@ -81,7 +82,7 @@ module _ {d s e : ℕ} {l l′ : List ℕ} (h : Held d s e l) (h′ : Held d s e
 
 -- ---- one call
 
-settled-lawful : {π : Partition} {v : View} {f : ℕ} (x : Planned) → Settled π v f x → Each (Lawful π v) (x .list)
+settled-lawful : {π : Partition} {v : View} {f : ℕ} {E : View → Type 0} (x : Planned) → Settled π v f E x → Each (Lawful π v) (x .list)
 settled-lawful _ (refused y) = tt
 settled-lawful _ (done a P o) = o .lawful
 
@@ -101,7 +102,7 @@ module _ {d s e : ℕ} {l : List ℕ} (h : Held d s e l) (ok : sound (partitionO
   abbrev π₁ : Partition
   π₁ = partitionOf d s e
 
-  plan : Settled (partitionOf d s e) (view l) (block h c) (planned d l s c)
+  plan : Settled (partitionOf d s e) (view l) (block h c) (Effect (partitionOf d s e) c (view l)) (planned d l s c)
   plan = settled h ok c k
 
   lawful : Each (Lawful (partitionOf d s e) (view l)) (planned d l s c .list)
@@ -114,7 +115,7 @@ module _ {d s e : ℕ} {l : List ℕ} (h : Held d s e l) (ok : sound (partitionO
   whole-view = view-after h (planned d l s c .list) lawful
 
   pub whole-ok : sound (partitionOf d s e) (view (whole d s l c)) ≡ true
-  whole-ok = ap (sound π₁) whole-view ∙ whole-sound π₁ (placed h .low) (placed h .pos) (view l) ok (block h c) (planned d l s c) plan
+  whole-ok = ap (sound π₁) whole-view ∙ whole-sound π₁ (placed h .low) (placed h .pos) (view l) ok (block h c) (Effect (partitionOf d s e) c (view l)) (planned d l s c) plan
 
   pub stopped-held : (n : ℕ) → Held d s e (stopped d s l c n)
   stopped-held n = held-after h (take n (planned d l s c .list)) (each-take (Lawful π₁ (view l)) n (planned d l s c .list) lawful)
@@ -127,7 +128,7 @@ module _ {d s e : ℕ} {l : List ℕ} (h : Held d s e l) (ok : sound (partitionO
   unnamed f n = go (eqb f (block h c)) refl
     where
       other : eqb f (block h c) ≡ false → views.SameFile π₁ (view l) (after (planned d l s c .list) (view l)) f
-      other q = whole-others π₁ (placed h .low) (placed h .pos) (view l) ok (block h c) (planned d l s c) plan f (eqb-false f (block h c) q)
+      other q = whole-others π₁ (placed h .low) (placed h .pos) (view l) ok (block h c) (Effect (partitionOf d s e) c (view l)) (planned d l s c) plan f (eqb-false f (block h c) q)
 
       hit : (c : Call) → named d s l c ≢ At f → f ≡ block h c → f ≡ 0
       hit (create kind) n z = absurd (n (ap At (sym z)))
@@ -177,6 +178,9 @@ module _ {d s e : ℕ} {l : List ℕ} (h : Held d s e l) (c : Clean (partitionOf
   pub mended-view : view (whole d s l repair) ≡ after (repairStores (partitionOf d s e) (view l)) (view l)
   mended-view = view-after h (planned d l s repair .list) repair-each ∙ ap (λ (xs : List Store). after xs (view l)) list-is
 
+  pub mended-length : length (whole d s l repair) ≡ length l
+  mended-length = length-after h (planned d l s repair .list) repair-each
+
   pub repair-done : isDone (planned d l s repair .outcome) ≡ true
   repair-done = ap (λ (x : Planned). isDone (x .outcome)) (repair-is h c n)
 
@@ -212,7 +216,7 @@ module _ {d s e : ℕ} {l : List ℕ} (h : Held d s e l) (ok : sound (partitionO
 
   -- at the view
   outlives : {u : View} → cuts.Repairs (partitionOf d s e) (view (stopped d s l c n)) u → cuts.Survives (partitionOf d s e) (pick (ltb (planned d l s c .deciding) n) (after (planned d l s c .list) (view l)) (view l)) u
-  outlives {u} r = stopped-survives π₄ (placed h .low) (placed h .pos) (view l) ok (block h c) (planned d l s c) (plan h ok c p) n
+  outlives {u} r = stopped-survives π₄ (placed h .low) (placed h .pos) (view l) ok (block h c) (Effect (partitionOf d s e) c (view l)) (planned d l s c) (plan h ok c p) n
       (subst (λ (w : View). cuts.Repairs π₄ w u) (stopped-view h ok c p n) r)
 
   -- at once after the stop

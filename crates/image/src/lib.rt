@@ -48,7 +48,7 @@ pub fn signed(w: usize) -> i32
 // Word w of block b as the signed number that it is.
 pub fn signed_word(img: &[u8], b: usize, w: usize) -> i32
     requires { ⌜ (528 * b + 528 ≤ length (now img)) × (w < 264) ⌝ }
-    ensures { λ r. ⌜ r ≡ signed (view (now (img .entry)) b w) ⌝ }
+    ensures { λ r. ⌜ (r ≡ signed (view (now (img .entry)) b w)) × (view (now (img .entry)) b w < 65536) ⌝ }
 {
     signed(word(img, b, w))
 }

@@ -26,7 +26,7 @@ use words::SERIAL;
 
 pub mod append;
 pub mod destroy;
-mod words;
+pub mod words;
 
 // The physical address of block b, which fits a pair of words.
 fn pda_of(drive: usize, b: usize) -> usize

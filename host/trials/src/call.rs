@@ -177,6 +177,7 @@ pub fn on_library(
     repaired: &[u8],
     buffer: &mut [u8],
 ) -> Option<Answer> {
+    // A build without the later groups looks at none of these.
     let _ = (&image, &repaired, &buffer);
     let answer = match call.name.group() {
         Group::Conversions => conversion!(raw, call),

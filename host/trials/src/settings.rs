@@ -1,5 +1,6 @@
 //! How many random cases a test runs, and from which seed. TAPERMOSS_CASES gives the number for every test instead of
-//! the short run's, TAPERMOSS_SEED another seed.
+//! the short run's, TAPERMOSS_SEED another seed. Some tests want to have met every outcome: below some 20,000 cases they
+//! may not.
 
 use reference::sample::Rng;
 use std::env;

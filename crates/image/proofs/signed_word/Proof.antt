@@ -7,7 +7,9 @@ use Rattle.image.proofs.signed_word.Statement.{statement}
 use Rattle.image.proofs.signed_word.Tie as tie
 
 returns : tie.Need-returns
-returns c = toZ-ofZ w32 (c .signed .result) (record { sfits = c .signed .ok }) ∙ c .signed .ensures ∙ ap signed (c .before .word .ensures .0)
+returns c =
+    let w = c .before .word .ensures in
+    (toZ-ofZ w32 (c .signed .result) (record { sfits = c .signed .ok }) ∙ c .signed .ensures ∙ ap signed (w .0), rw (← w .0) (w .1))
 
 pub signed-word-spec : {M : Type 1} → statement M
 signed-word-spec = tie.close (tie.spec (λ c κs. search needs) (λ c κs. search needs) returns)

@@ -1,0 +1,15 @@
+use mathlib.Core.Path.{ap, _∙_}
+use native.Mathlib.Omega.{arith}
+use Rattle.drive.specs.Address.{ldaBlock}
+use Rattle.image.specs.View.{pair}
+use Rattle.volume.specs.Files.{indirect, ptr}
+use borrow.Author.Needs.{needs}
+use Rattle.inspect.proofs.index.ptr.Statement.{statement}
+use Rattle.inspect.proofs.index.ptr.Tie as tie
+
+returns : tie.Need-returns
+unfolding ptr indirect
+returns c = (c .lda-block .ensures .0 ∙ ap (ldaBlock _) (c .before .pair .ensures .0), omega (arith, c .lda-block .ensures .1, c .before .pair .ensures .1))
+
+pub ptr-spec : {M : Type 1} → statement M
+ptr-spec = tie.close (tie.spec (λ c. search needs) (λ c. search needs) (λ c κs. search needs) (λ c κs. search needs) returns)

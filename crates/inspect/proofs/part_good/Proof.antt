@@ -1,0 +1,57 @@
+use mathlib.Core.Path.{sym, ap, _∙_}
+use borrow.Author.Tests.{lt-ltb, le-ltb, le-leb, lt-leb}
+use Rattle.base.specs.Tests.{every}
+use Rattle.drive.specs.Address.{lda, ldaBlock}
+use Rattle.image.specs.View.{pair}
+use Rattle.volume.specs.Answers.{partGood, endOf}
+use Rattle.volume.specs.Steps.{every-no, ne-of, eq-of, and-true}
+use borrow.Author.Needs.{needs}
+use Rattle.inspect.proofs.part_good.Statement.{statement}
+use Rattle.inspect.proofs.part_good.Tie as tie
+
+returns : tie.Need-returns
+unfolding partGood
+returns c = sym (every-no _ 0 (lt-leb _ _ (c .if1 .taken)))
+
+returns-2 : tie.Need-returns-2
+unfolding partGood
+returns-2 c = sym (every-no _ 1 (le-ltb _ _ (c .if2 .taken)))
+
+returns-3 : tie.Need-returns-3
+unfolding partGood
+returns-3 c = sym (every-no _ 2 (ne-of (c .before .before .pair .ensures .0) (c .before .lda .ensures) (c .if3 .taken)))
+
+returns-4 : tie.Need-returns-4
+unfolding partGood endOf
+returns-4 c = let z = c .before .before .lda-block .ensures .0 ∙ ap (ldaBlock _) (c .before .before .before .pair2 .ensures .0) in sym (every-no _ 3 (ne-of (c .before .before .before .pair2 .ensures .0) (c .before .lda2 .ensures ∙ ap (lda _) z) (λ q. c .if4 .taken (sym q))))
+
+returns-5 : tie.Need-returns-5
+unfolding partGood endOf
+returns-5 c = let z = c .before .before .before .lda-block .ensures .0 ∙ ap (ldaBlock _) (c .before .before .before .before .pair2 .ensures .0) in sym (every-no _ 4 (le-ltb _ _ (rw z at (c .if5 .taken))))
+
+returns-6 : tie.Need-returns-6
+unfolding partGood endOf
+returns-6 c = let z = c .before .before .before .before .lda-block .ensures .0 ∙ ap (ldaBlock _) (c .before .before .before .before .before .pair2 .ensures .0) in sym (every-no _ 5 (le-ltb _ _ (rw z at (c .if6 .taken))))
+
+returns-7 : tie.Need-returns-7
+unfolding partGood endOf every
+returns-7 c = let z = c .before .before .before .before .lda-block .ensures .0 ∙ ap (ldaBlock _) (c .before .before .before .before .before .pair2 .ensures .0) in rw (z, le-leb _ _ (c .before .before .before .before .before .before .before .before .before .before .if1 .left), lt-ltb _ _ (c .before .before .before .before .before .before .before .before .before .if2 .left), eq-of (c .before .before .before .before .before .before .before .before .pair .ensures .0) (c .before .before .before .before .before .before .before .lda .ensures) (c .before .before .before .before .before .before .if3 .left), eq-of (c .before .before .before .before .before .pair2 .ensures .0) (c .before .before .before .lda2 .ensures ∙ ap (lda _) z) (sym (c .before .before .if4 .left)), lt-ltb _ _ (rw z at (c .before .if5 .left)), lt-ltb _ _ (rw z at (c .if6 .left))) (sym (and-true _))
+
+pub part-good-spec : {M : Type 1} → statement M
+part-good-spec =
+    tie.close
+    (tie.spec
+    returns
+    returns-2
+    (λ c κs. search needs)
+    (λ c κs. search needs)
+    returns-3
+    (λ c κs. search needs)
+    (λ c κs. search needs)
+    (λ c κs. search needs)
+    returns-4
+    returns-5
+    returns-6
+    (λ c. search needs)
+    (λ c. search needs)
+    returns-7)

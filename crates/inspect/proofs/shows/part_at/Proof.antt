@@ -1,0 +1,10 @@
+use Rattle.inspect.proofs.Laws.{length-512}
+use borrow.Author.Needs.{needs}
+use Rattle.inspect.proofs.shows.part_at.Statement.{statement}
+use Rattle.inspect.proofs.shows.part_at.Tie as tie
+
+returns : tie.Need-returns
+returns c = rw length-512
+
+pub part-at-spec : {M : Type 1} → statement M
+part-at-spec = tie.close (tie.spec (λ c. search needs) (λ c. search needs) (λ c. search needs) (λ c. search needs) returns)

@@ -1,0 +1,196 @@
+// Code that reads: the partition, candidates and files, the next file, and show.
+ghost use mathlib.Core.Path.{_≡_};
+ghost use Prim.Native.Nat.{_+_, _*_, _≤_, _<_};
+ghost use lib.Dec.{ltb};
+ghost use lib.ListN.{length};
+ghost use Rattle.base.specs.Tests.{pick};
+ghost use Rattle.image.specs.Image.{view};
+ghost use Rattle.volume.specs.Files.{partitionOf, candidate, isFile, isMalformed};
+ghost use Rattle.volume.specs.Answers.{imageGood, partGood, partition, lowestMalformed, fileAbove, nextFile};
+ghost use Rattle.volume.specs.Reads.{Lies};
+use base::Refusal;
+use volume::Found;
+use volume::Outcome;
+use volume::Part;
+
+pub mod form; // form.rt: whether a file is well formed
+pub mod index; // index.rt: a file's index
+pub mod numbers; // numbers.rt: relative numbers
+pub mod shows; // shows.rt: show, and show of a pair
+
+pub use form::well_formed;
+pub use index::len;
+pub use index::name;
+pub use index::nth;
+pub use index::ptrs_for;
+pub use numbers::place_of;
+pub use shows::show;
+pub use shows::show_answer;
+pub use shows::show_in;
+pub use shows::show_pair;
+pub use shows::show_pair_answer;
+
+// Words of a header and of a PIB, and the relative number of a FIB.
+const SERIAL: usize = 0;
+
+const PARTITION_START: usize = 126;
+
+const PARTITION_END: usize = 128;
+
+const FIB: i32 = -1;
+
+// Whether the drive is known and n bytes are an image for it.
+pub fn image_good(drive: usize, n: usize) -> bool
+    ensures { λ r. ⌜ r ≡ imageGood drive n ⌝ }
+{
+    if 3 < drive {
+        return false;
+    }
+    if n < 1 {
+        return false;
+    }
+    if n % 528 != 0 {
+        return false;
+    }
+    n / 528 <= drive::blocks(drive)
+}
+
+// Whether s names a good partition of an image of n blocks.
+pub fn part_good(img: &[u8], drive: usize, n: usize, s: usize) -> bool
+    requires { ⌜ (528 * n ≤ length (now img)) × (n < 69553) ⌝ }
+    ensures { λ r. ⌜ r ≡ partGood drive n (view (now (img .entry))) s ⌝ }
+{
+    if s < 1 {
+        return false;
+    }
+    if n <= s {
+        return false;
+    }
+    if image::pair(img, s, PARTITION_START) != drive::lda(drive, s) {
+        return false;
+    }
+    let x = image::pair(img, s, PARTITION_END);
+    let e = drive::lda_block(drive, x);
+    if drive::lda(drive, e) != x {
+        return false;
+    }
+    if e <= s {
+        return false;
+    }
+    if n <= e {
+        return false;
+    }
+    e - s + 1 <= 32767
+}
+
+// The end of the partition at s.
+pub fn partition(img: &[u8], drive: usize, s: usize) -> Part
+    ensures { λ r. ⌜ r ≡ partition drive (now (img .entry)) s ⌝ }
+{
+    if !image_good(drive, img.len()) {
+        return Part::Refused(Refusal::BadImage);
+    }
+    let n = img.len() / 528;
+    if part_good(img, drive, n, s) {
+        Part::Good(drive::lda_block(drive, image::pair(img, s, PARTITION_END)))
+    } else {
+        Part::Refused(Refusal::BadPartition)
+    }
+}
+
+// Whether f is a candidate of the partition s to e.
+pub fn candidate(img: &[u8], drive: usize, s: usize, e: usize, f: usize) -> bool
+    requires { ⌜ Lies drive (now img) s e ⌝ }
+    ensures { λ r. ⌜ r ≡ candidate (partitionOf drive s e) (view (now (img .entry))) f ⌝ }
+{
+    if f <= s {
+        return false;
+    }
+    if e < f {
+        return false;
+    }
+    if image::pair(img, f, SERIAL) != drive::pda(drive, f) {
+        return false;
+    }
+    numbers::has_number(img, f, FIB)
+}
+
+// Whether f is a file.
+pub fn is_file(img: &[u8], drive: usize, s: usize, e: usize, f: usize) -> bool
+    requires { ⌜ Lies drive (now img) s e ⌝ }
+    ensures { λ r. ⌜ r ≡ isFile (partitionOf drive s e) (view (now (img .entry))) f ⌝ }
+{
+    if candidate(img, drive, s, e, f) {
+        form::well_formed(img, drive, s, e, f)
+    } else {
+        false
+    }
+}
+
+// Whether f is a malformed candidate.
+fn is_malformed(img: &[u8], drive: usize, s: usize, e: usize, f: usize) -> bool
+    requires { ⌜ Lies drive (now img) s e ⌝ }
+    ensures { λ r. ⌜ r ≡ isMalformed (partitionOf drive s e) (view (now (img .entry))) f ⌝ }
+{
+    if candidate(img, drive, s, e, f) {
+        !form::well_formed(img, drive, s, e, f)
+    } else {
+        false
+    }
+}
+
+// The lowest malformed candidate.
+pub fn lowest_malformed(img: &[u8], drive: usize, s: usize, e: usize) -> Found
+    requires { ⌜ Lies drive (now img) s e ⌝ }
+    ensures { λ r. ⌜ r ≡ lowestMalformed (partitionOf drive s e) (view (now (img .entry))) ⌝ }
+{
+    let end = e + 1;
+    for f in s + 1..end {
+        if is_malformed(img, drive, s, e, f) {
+            return Found::At(f);
+        }
+    }
+    Found::Nothing
+}
+
+// The larger of two numbers.
+fn most(a: usize, b: usize) -> usize
+    ensures { λ r. ⌜ r ≡ pick (ltb a b) b a ⌝ }
+{
+    if a < b { b } else { a }
+}
+
+// The lowest file above b.
+pub fn file_above(img: &[u8], drive: usize, s: usize, e: usize, b: usize) -> Found
+    requires { ⌜ Lies drive (now img) s e ⌝ }
+    ensures { λ r. ⌜ r ≡ fileAbove (partitionOf drive s e) (view (now (img .entry))) b ⌝ }
+{
+    let a = most(b, s);
+    if e <= a {
+        return Found::Nothing;
+    }
+    let end = e + 1;
+    for f in a + 1..end {
+        if is_file(img, drive, s, e, f) {
+            return Found::At(f);
+        }
+    }
+    Found::Nothing
+}
+
+// Next file, a public call: the lowest file above a block.
+pub fn next_file(img: &[u8], drive: usize, s: usize, after: usize) -> Outcome
+    ensures { λ r. ⌜ r ≡ nextFile drive (now (img .entry)) s after ⌝ }
+{
+    let p = partition(img, drive, s);
+    match p {
+        Part::Good(e) => {
+            let x = file_above(img, drive, s, e, after);
+            match x {
+                Found::At(f) => Outcome::Done(f, 0, 0),
+                Found::Nothing => Outcome::Absent,
+            }
+        }
+        Part::Refused(why) => Outcome::Refused(why),
+    }
+}
