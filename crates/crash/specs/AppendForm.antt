@@ -356,4 +356,3 @@ module _ {π : Partition} {v : View} {f : ℕ} {dat : Rec} (G : Growing π v f d
     left = some-free π D g g-in (turn-free π v (clean₀ G) D f turn₁ (λ _. of-wf π D f D-form) g (free-of G g (next G .inn)) (λ _. taken g (next G .inn) (next G .na) (next G .nq)));
     late = (calm-soft π D (soft-links π D g (v g) D-g (λ w n3 _ _ n6 n7. first-links π.drive v g w n3 n6 n7)), (calm-pib π D, tt));
   }
-

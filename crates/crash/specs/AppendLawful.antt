@@ -98,10 +98,11 @@ module _ {π : Partition} {v : View} {f : ℕ} {dat : Rec} (G : Growing π v f d
     pub append-lawful : Each (Lawful π v) (stores (appendPlan π v f dat))
     unfolding stores appendPlan appended
     append-lawful =
-        each-append (Lawful π v) (before G) _
-        (inner at (a-in G) datum-fits,
-        each-mid G (Lawful π v) (λ _. inner at (q-in G) pointer-fits) (λ _ _. inner at top-in slot-fits)
-        (each-links G (Lawful π v)
-        (λ _. inner at old-in (put2-fits 4 _ (omega arith) (pda-fits at a (le-end at a (a-in G))) (at .fits old)))
-        (λ _ _. inner at top-in (put2-fits 6 _ (omega arith) (pda-fits at q (le-end at q (q-in G))) (at .fits top)))))
+        each-append (Lawful π v) (before G) _ (
+          inner at (a-in G) datum-fits,
+          each-mid G (Lawful π v) (λ _. inner at (q-in G) pointer-fits) (λ _ _. inner at top-in slot-fits)
+              (each-links G (Lawful π v)
+              (λ _. inner at old-in (put2-fits 4 _ (omega arith) (pda-fits at a (le-end at a (a-in G))) (at .fits old)))
+              (λ _ _. inner at top-in (put2-fits 6 _ (omega arith) (pda-fits at q (le-end at q (q-in G))) (at .fits top)))),
+        )
         (inner at f-in grown-fits, (first-lawful at g (g-in G), (less-lawful at g (pick new 2 1) (g-in G), tt)))

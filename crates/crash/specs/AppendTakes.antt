@@ -25,12 +25,17 @@ use Rattle.frame.specs.Sound.{Starts, occ-here, occ-more, sound-clean, free-in,
 use Rattle.crash.specs.Records.{put2-off}
 use Rattle.crash.specs.FreeBlocks.{starts-two, second-occ, first≢second, free≢nth, free≢fib, nth-unique}
 
+-- how many free blocks append asks for: those it takes, and one that is left over
+abbrev pub asks : Bool → ℕ
+asks true = 3
+asks false = 2
+
 -- file f can grow by one block with the words dat
 pub record Growing (π : Partition) (v : View) (f : ℕ) (dat : Rec) : Type 0 where
   pub ok : sound π v ≡ true
   pub cf : candidate π v f ≡ true
   pub room : len π v f < 4160
-  pub enough : pick (grows π v f) 3 2 ≤ length (free π v)
+  pub enough : asks (grows π v f) ≤ length (free π v)
 
 module _ {π : Partition} {v : View} {f : ℕ} {dat : Rec} (G : Growing π v f dat) where
   -- its blocks and pointer blocks, before and after; it needs a new pointer block
@@ -102,7 +107,7 @@ module _ {π : Partition} {v : View} {f : ℕ} {dat : Rec} (G : Growing π v f d
   two : 2 ≤ length (free π v)
   two = go new (G .enough)
     where
-      go : (t : Bool) → pick t 3 2 ≤ length (free π v) → 2 ≤ length (free π v)
+      go : (t : Bool) → asks t ≤ length (free π v) → 2 ≤ length (free π v)
       go true h = omega arith
       go false h = h
 
@@ -116,7 +121,7 @@ module _ {π : Partition} {v : View} {f : ℕ} {dat : Rec} (G : Growing π v f d
   a≢q = first≢second π v (G .ok) two
 
   pub st₃ : grows π v f ≡ true → Starts (freeHead π v ∷ after₁ π v (freeHead π v) ∷ after₁ π v (after₁ π v (freeHead π v)) ∷ []) (free π v)
-  st₃ h = free-starts π v (G .ok) 3 (subst (λ (t : Bool). pick t 3 2 ≤ length (free π v)) h (G .enough))
+  st₃ h = free-starts π v (G .ok) 3 (subst (λ (t : Bool). asks t ≤ length (free π v)) h (G .enough))
 
   pub a-in : inside π (freeHead π v) ≡ true
   a-in = free-in π v (G .ok) a a-occ

@@ -14,7 +14,6 @@ use Rattle.frame.specs.Repair.{mid-agree}
 use Rattle.frame.specs.Restart.{Part, start, again, finish}
 use Rattle.frame.specs.Mended.{sound-is, mended-agree}
 use Rattle.frame.specs.Turn.{Each, each-take, after-append, cut-early, cut-late, Calm, calm-agree, Turn, turn-clean}
-
 use Rattle.crash.specs.SameFile.{SameFile, SameFiles, file-trans, file-sym, agree-same, turn-same}
 
 -- ---- a run of stores with a deciding one x: those before it change no file, it changes f alone, the rest change no file
@@ -121,9 +120,6 @@ module _ (π : Partition) where
         -- the whole run changes no other file
         pub others-same : (g : ℕ) → g ≢ f → SameFile π v (after stores v) g
         others-same g ne = file-trans (turn-same π v decided c clean₁ f (y .turn) g ne) (decided-same g)
-
-        pub whole-clean : Clean π (after stores v)
-        whole-clean = agree-clean π decided (after stores v) clean₁ (alike π whole-agree)
 
         pub whole-agrees : Agree π decided (after stores v)
         whole-agrees = whole-agree

@@ -63,9 +63,6 @@ module _ (π : Partition) (v : View) (ok : sound π v ≡ true) where
     pub own-file : fileOf π v f ≡ f
     own-file = ap (pdaBlock π.drive) (cand-serial π v f cf) ∙ pda-back π.drive f
 
-    pub f-owned : owned π v f ≡ true
-    f-owned = subst (λ (x : ℕ). owned π v x ≡ true) (nth-fib π v f) (member-owned π v f cf wf (ptrs π v f) (fib-in π v f))
-
     -- a free block is none of them
     pub free≢nth : (b i : ℕ) → 0 < occ b (free π v) → i < size π v f → b ≢ nth π v f i
     free≢nth b i m l z = true≢false (sym (member-owned π v f cf wf i l) ∙ ap (owned π v) (sym z) ∙ free-not π v ok b m)

@@ -21,7 +21,7 @@ use Rattle.volume.specs.Reads.{Lies, lies}
 use Rattle.volume.specs.declared.Part.{Part}
 use Rattle.volume.specs.declared.Part.the-variants as part
 use Rattle.crash.specs.Fitting.{view-fits}
-use Rattle.crash.specs.Lawful.{Placed, Lawful}
+use Rattle.crash.specs.Lawful.{Placed, Lawful, fixedFrom}
 
 -- ---- bytes
 
@@ -111,7 +111,7 @@ module _ {d s e : ℕ} {l : List ℕ} (h : Held d s e l) where
     pub length-after : length (stored ss l) ≡ length l
     length-after = stored-length ss l fit
 
-    pib-word : (w : ℕ) → 14 ≤ w → view (stored ss l) s w ≡ view l s w
+    pib-word : (w : ℕ) → fixedFrom ≤ w → view (stored ss l) s w ≡ view l s w
     pib-word w m =
         ap (λ (u : View). u s w) view-after
         ∙ after-each (λ b r. b ≡ s → r w ≡ v s w) ss v (each-map (Lawful π v) (λ b r. b ≡ s → r w ≡ v s w) (λ b r q z. q .pib z w m) ss k) (λ b z. ap (λ (x : ℕ). v x w) z) s refl

@@ -33,11 +33,15 @@ pub record Placed (π : Partition) (v : View) : Type 0 where
   pub few : π.e < 69552
   pub fits : (b : ℕ) → Fits (v b)
 
+-- the first word of the PIB that no call changes
+abbrev pub fixedFrom : ℕ
+fixedFrom = 14
+
 pub record Lawful (π : Partition) (v : View) (b : ℕ) (r : Rec) : Type 0 where
   pub from : π.s ≤ b
   pub to : b ≤ π.e
   pub fits : Fits r
-  pub pib : b ≡ π.s → (w : ℕ) → 14 ≤ w → r w ≡ v π.s w
+  pub pib : b ≡ π.s → (w : ℕ) → fixedFrom ≤ w → r w ≡ v π.s w
 
 -- ---- numbers of blocks in a list of the partition's are at most e
 
@@ -107,7 +111,7 @@ module _ {π : Partition} {v : View} (at : Placed π v) where
   pub inner : {b : ℕ} {r : Rec} → inside π b ≡ true → Fits r → Lawful π v b r
   inner {b} i h = let n = in-both π b i in record { from = omega arith; to = n .1; fits = h; pib = λ z. absurd (omega arith) }
 
-  pub at-pib : {r : Rec} → Fits r → ((w : ℕ) → 14 ≤ w → r w ≡ v π.s w) → Lawful π v π.s r
+  pub at-pib : {r : Rec} → Fits r → ((w : ℕ) → fixedFrom ≤ w → r w ≡ v π.s w) → Lawful π v π.s r
   at-pib h k = record { from = omega arith; to = omega (arith, at .low); fits = h; pib = λ _. k }
 
   number-small : pair v π.s 12 < 4294967296
@@ -127,11 +131,12 @@ module _ {π : Partition} {v : View} (at : Placed π v) where
   module _ (ok : sound π v ≡ true) where
     pub create-lawful : 2 ≤ length (free π v) → (kind : ℕ) → kind < 65536 → Each (Lawful π v) (stores (createPlan π v kind))
     unfolding stores createPlan freshFib
-    create-lawful two kind k =
-        (inner h-in (put2-fits 0 _ (omega arith) (pda-fits h (le-end h h-in)) (put-fits 2 65535 (omega arith) (omega arith) (put-fits 3 (v h 3) (omega arith) (at .fits h .small 3)
-        (put-fits 256 kind (omega arith) k (put-fits 257 1 (omega arith) (omega arith) (put-fits 258 65535 (omega arith) (omega arith)
-        (put2-fits 259 _ (omega arith) lh (put-fits 261 65535 (omega arith) (omega arith) (put2-fits 262 _ (omega arith) lh blank-fits))))))))),
-        (first-lawful g g-in, (less-lawful g 1 g-in, tt)))
+    create-lawful two kind k = (
+      inner h-in (put2-fits 0 _ (omega arith) (pda-fits h (le-end h h-in)) (put-fits 2 65535 (omega arith) (omega arith) (put-fits 3 (v h 3) (omega arith) (at .fits h .small 3)
+          (put-fits 256 kind (omega arith) k (put-fits 257 1 (omega arith) (omega arith) (put-fits 258 65535 (omega arith) (omega arith)
+          (put2-fits 259 _ (omega arith) lh (put-fits 261 65535 (omega arith) (omega arith) (put2-fits 262 _ (omega arith) lh blank-fits))))))))),
+      (first-lawful g g-in, (less-lawful g 1 g-in, tt)),
+    )
       where
         h : ℕ
         h = freeHead π v
@@ -185,15 +190,20 @@ module _ {π : Partition} {v : View} (at : Placed π v) where
 
       pub destroy-lawful : Each (Lawful π v) (stores (destroyPlan π v f))
       unfolding stores destroyPlan destroyed topGoneStores lastGoneStores fibGone pibMore
-      destroy-lawful =
-          (inner f-in (fib (ltb p 1)),
-          each-append (Lawful π v) (pick (ltb p 1) [] (st top (topGone π.drive v h tl top) ∷ [])) _
-          (each-pick (Lawful π v) (ltb p 1) [] (st top (topGone π.drive v h tl top) ∷ []) (λ _. tt) (λ _. (inner top-in (top-fits top), tt)))
-          (each-append (Lawful π v) (pick (ltb k 1) [] (st last (gone π.drive v h last) ∷ [])) _
-          (each-pick (Lawful π v) (ltb k 1) [] (st last (gone π.drive v h last) ∷ []) (λ _. tt) (λ _. (inner last-in′ (gone-fits last), tt)))
-          (inner tail-in (put2-fits 4 _ (omega arith) (pda-fits top (le-end top top-in)) (at .fits tl)),
-          (at-pib (put2-fits 10 _ (omega arith) (lda-fits last (le-end last last-in′)) (put2-fits 12 (pair v π.s 12 + (p + k + 1)) (omega arith) (omega (arith, number-few, few-ptrs π v f cf wf, wf-of π v f wf .short)) (at .fits π.s)))
-          (λ w l. put2-off 10 _ _ w (λ z. omega arith) (λ z. omega arith) ∙ put2-off 12 _ (v π.s) w (λ z. omega arith) (λ z. omega arith)), tt))))
+      destroy-lawful = (
+        inner f-in (fib (ltb p 1)),
+        each-append (Lawful π v) (pick (ltb p 1) [] (st top (topGone π.drive v h tl top) ∷ [])) _
+            (each-pick (Lawful π v) (ltb p 1) [] (st top (topGone π.drive v h tl top) ∷ []) (λ _. tt) (λ _. (inner top-in (top-fits top), tt)))
+            (each-append (Lawful π v) (pick (ltb k 1) [] (st last (gone π.drive v h last) ∷ [])) _
+            (each-pick (Lawful π v) (ltb k 1) [] (st last (gone π.drive v h last) ∷ []) (λ _. tt) (λ _. (inner last-in′ (gone-fits last), tt))) (
+              inner tail-in (put2-fits 4 _ (omega arith) (pda-fits top (le-end top top-in)) (at .fits tl)),
+              (
+                at-pib (put2-fits 10 _ (omega arith) (lda-fits last (le-end last last-in′)) (put2-fits 12 (pair v π.s 12 + (p + k + 1)) (omega arith) (omega (arith, number-few, few-ptrs π v f cf wf, wf-of π v f wf .short)) (at .fits π.s)))
+                    (λ w l. put2-off 10 _ _ w (λ z. omega arith) (λ z. omega arith) ∙ put2-off 12 _ (v π.s) w (λ z. omega arith) (λ z. omega arith)),
+                tt,
+              ),
+            )),
+      )
         where
           p : ℕ
           p = ptrs π v f
@@ -298,6 +308,8 @@ module _ {π : Partition} {v : View} (at : Placed π v) where
   pub repair-lawful : Each (Lawful π v) (repairStores π v)
   unfolding stores repairPlan repairedPib
   repair-lawful =
-      each-append (Lawful π v) (tabFrom (suc π.s) (π.e - π.s) (λ b. st b (repaired π v fr b))) _ (tab-lawful (suc π.s) (π.e - π.s) (omega arith) (omega (arith, at .low)))
-      (at-pib (put2-fits 8 _ (omega arith) (lda-fits _ (head-in π fr fr-in)) (put2-fits 10 _ (omega arith) (lda-fits _ (last-in π 0 fr (omega arith) fr-in)) (put2-fits 12 (length fr) (omega arith) fr-few (at .fits π.s))))
-      (λ w l. put2-off 8 _ _ w (λ z. omega arith) (λ z. omega arith) ∙ put2-off 10 _ _ w (λ z. omega arith) (λ z. omega arith) ∙ put2-off 12 _ (v π.s) w (λ z. omega arith) (λ z. omega arith)), tt)
+      each-append (Lawful π v) (tabFrom (suc π.s) (π.e - π.s) (λ b. st b (repaired π v fr b))) _ (tab-lawful (suc π.s) (π.e - π.s) (omega arith) (omega (arith, at .low))) (
+        at-pib (put2-fits 8 _ (omega arith) (lda-fits _ (head-in π fr fr-in)) (put2-fits 10 _ (omega arith) (lda-fits _ (last-in π 0 fr (omega arith) fr-in)) (put2-fits 12 (length fr) (omega arith) fr-few (at .fits π.s))))
+            (λ w l. put2-off 8 _ _ w (λ z. omega arith) (λ z. omega arith) ∙ put2-off 10 _ _ w (λ z. omega arith) (λ z. omega arith) ∙ put2-off 12 _ (v π.s) w (λ z. omega arith) (λ z. omega arith)),
+        tt,
+      )

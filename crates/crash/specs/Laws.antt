@@ -1,6 +1,6 @@
--- Beside demand 3, each a law with a name, of images: a whole call keeps a partition sound; a refused call leaves the image alone; a call
--- that is done has its effect; repair leaves what check accepts, and repairing again changes no byte; no cut makes a malformed
--- candidate; free blocks and what the files need are m - 1.
+-- Beside demand 3, each a law with a name, of images: a whole call keeps a partition sound; images stay images; a refused call leaves
+-- the image alone; a call that is done has its effect; repair leaves what check accepts, and repairing again changes no byte; no cut
+-- makes a malformed candidate; free blocks and what the files need are m - 1.
 use mathlib.Core.Path.{_≡_, refl, sym, ap, ap₂, _∙_, subst, fun-ext}
 use mathlib.Core.Logic.{_≢_}
 use mathlib.Core.List.{List, []}
@@ -44,13 +44,21 @@ use Rattle.crash.specs.Accepting.{Sound, clean-unmarred, sound-accepted,
 use Rattle.crash.specs.Effect.{Effect}
 use Rattle.crash.specs.Needed.{needed, owned-needed, free-unowned}
 use Rattle.crash.specs.Needed as counts
-use Rattle.crash.specs.Statement.{Image, Proper, isDone, Accepted, stopped, whole, here}
-use Rattle.crash.specs.Theorem.{whole-kept, whole-view, stopped-held, cut-clean, mended-held, mended-view, mended-length}
+use Rattle.crash.specs.Statement.{Repairs, Image, Proper, isDone, Accepted, stopped, whole, here}
+use Rattle.crash.specs.Theorem.{whole-kept, survivor-held, whole-view, stopped-held, cut-clean, mended-held, mended-view, mended-length}
 
 -- ---- a whole changing call, done or refused, keeps a partition sound
 
 pub whole-accepted : (d s : ℕ) (l : List ℕ) → Image l → Accepted d s l → (c : Call) → Proper c → Accepted d s (whole d s l c)
 whole-accepted d s l b a c p = let y = whole-kept (accepted-sound d s l b a) c p in sound-accepted (y .held) (y .is)
+
+-- ---- an image stays an image of bytes, through whole calls, and through a stopped one and its repairs: demand 3 can be used again there
+
+pub whole-image : (d s : ℕ) (l : List ℕ) → Image l → Accepted d s l → (c : Call) → Proper c → Image (whole d s l c)
+whole-image d s l b a c p = whole-kept (accepted-sound d s l b a) c p .held .bytes
+
+pub survivor-image : (d s : ℕ) (l : List ℕ) → Image l → Accepted d s l → (c : Call) → Proper c → (k : ℕ) → (l′ : List ℕ) → Repairs d s (stopped d s l c k) l′ → Image (whole d s l′ repair)
+survivor-image d s l b a c p k l′ r = let y = accepted-sound d s l b a in survivor-held (y .held) (y .is) c p k l′ r .bytes
 
 -- ---- a call that is refused leaves the image alone: any image, any arguments, any limit
 

@@ -86,10 +86,6 @@ module _ (π : Partition) (v : View) (ok : sound π v ≡ true) (f : ℕ) (cf : 
     unfolding after
     turn₁ = one-good .turn
 
-    form₁ : candidate π (upd v b r) f ≡ true → wellFormed π (upd v b r) f ≡ true
-    unfolding after
-    form₁ = one-good .form
-
     same-f : candidate π v f ≡ candidate π (upd v b r) f
     same-f = headed-is π v f ∙ headed-same π f (one-shape .head) ∙ sym (headed-is π (upd v b r) f)
 

@@ -28,7 +28,7 @@ use Rattle.crash.specs.OneBlock.{describe-good, describe-sound, replace-
 use Rattle.crash.specs.Destroy.{destroy-good, destroy-sound}
 use Rattle.crash.specs.SameFile.{SameFiles}
 use Rattle.crash.specs.Effect.{Created, Written, Described, created, described, replaced, grown, removed, mended-same}
-use Rattle.crash.specs.AppendTakes.{Growing}
+use Rattle.crash.specs.AppendTakes.{Growing, asks}
 use Rattle.crash.specs.AppendForm.{append-good}
 use Rattle.crash.specs.AppendSound.{append-sound}
 use Rattle.crash.specs.AppendLawful.{append-lawful}
@@ -79,7 +79,7 @@ module _ (π : Partition) (v : View) (at : Placed π v) (ok : sound π v ≡ tru
   unfolding appendIn
   append-settled f dat k c l = either (leb (room π v) (pick (grows π v f) 2 1)) _ _ (λ _. refused Full) (λ h. done 0 (appendPlan π v f dat) (owes (record { ok = ok; cf = c; room = l; enough = more (grows π v f) (leb-no _ _ h) })))
     where
-      more : (t : Bool) → pick t 2 1 < length (free π v) → pick t 3 2 ≤ length (free π v)
+      more : (t : Bool) → pick t 2 1 < length (free π v) → asks t ≤ length (free π v)
       more true h = h
       more false h = h
 

@@ -211,9 +211,6 @@ module _ {d s e : ℕ} {l : List ℕ} (h : Held d s e l) (ok : sound (partitionO
   abbrev xs : List Store
   xs = planned d l s c .list
 
-  made : Bool
-  made = ltb (planned d l s c .deciding) n
-
   -- at the view
   outlives : {u : View} → cuts.Repairs (partitionOf d s e) (view (stopped d s l c n)) u → cuts.Survives (partitionOf d s e) (pick (ltb (planned d l s c .deciding) n) (after (planned d l s c .list) (view l)) (view l)) u
   outlives {u} r = stopped-survives π₄ (placed h .low) (placed h .pos) (view l) ok (block h c) (Effect (partitionOf d s e) c (view l)) (planned d l s c) (plan h ok c p) n
@@ -225,6 +222,13 @@ module _ {d s e : ℕ} {l : List ℕ} (h : Held d s e l) (ok : sound (partitionO
 
   pub cut-spare : unowned (partitionOf d s e) (view (stopped d s l c n)) ≢ []
   cut-spare = outlives cuts.none .spare
+
+  -- what the last repair leaves holds the partition still
+  pub survivor-held : (l′ : List ℕ) → Repairs d s (stopped d s l c n) l′ → Held d s e (whole d s l′ repair)
+  survivor-held l′ r =
+      let x = reached (stopped-held h ok c p n) cut-clean cut-spare r in
+      let y = outlives (x .repairs) in
+      mended-held (x .held) (y .clean) (y .spare)
 
   pub survived : (l′ : List ℕ) → Repairs d s (stopped d s l c n) l′ → Survives d s l c n l′
   survived l′ r = record {

@@ -1,1 +1,1 @@
-// Demand 3: one statement over images and its proof. No code.
+// Demand 3: one statement over images (specs/Statement.antt), its proof, and the laws beside it. No code.

@@ -1,8 +1,9 @@
 //! `tapermoss address`: one block, named in each of the four ways.
 
+use crate::problem::Problem;
+use crate::{drive, output};
 use clap::{Args, ValueEnum};
 use perq::{Drive, Refusal, Words};
-use std::error::Error;
 use std::fmt::Display;
 
 pub const EXAMPLES: &str = "\
@@ -15,7 +16,7 @@ Examples:
 #[derive(Args)]
 pub struct Arguments {
     /// The drive: 0 or shugart12, 1 or shugart24, 2 or micropolis35, 3 or floppy
-    #[arg(long, value_parser = drive)]
+    #[arg(long, value_parser = drive::parse)]
     drive: Drive,
     /// How the block is named
     kind: Kind,
@@ -37,13 +38,6 @@ enum Kind {
     Lda,
     /// A FileID
     Fileid,
-}
-
-fn drive(text: &str) -> Result<Drive, String> {
-    let names = ["shugart12", "shugart24", "micropolis35", "floppy"];
-    let by_name = names.iter().position(|&name| name == text).map(|place| Drive::ALL[place]);
-    let by_number = || text.parse().ok().and_then(Drive::from_number);
-    by_name.or_else(by_number).ok_or_else(|| format!("it is 0 to 3 or one of {}", names.join(", ")))
 }
 
 /// A block with its other names; a FileID is refused for blocks that have none.
@@ -72,43 +66,43 @@ pub fn or_refusal<T: Display>(value: &Result<T, Refusal>) -> String {
 }
 
 /// The block that the arguments name.
-fn block(arguments: &Arguments) -> Result<u32, Box<dyn Error>> {
+fn block(arguments: &Arguments) -> Result<u32, Problem> {
     let Arguments { drive, kind, ref first, ref second } = *arguments;
     Ok(match (kind, second) {
         (Kind::Lbn, None) => decimal(first)?,
         (Kind::Fileid, None) => perq::fileid_to_lbn(drive, decimal(first)?)?,
         (Kind::Pda, Some(high)) => perq::pda_to_lbn(drive, octal(first, high)?)?,
         (Kind::Lda, Some(high)) => perq::lda_to_lbn(drive, octal(first, high)?)?,
-        (Kind::Lbn | Kind::Fileid, Some(_)) => usage("an LBN or a FileID is one number"),
-        (Kind::Pda | Kind::Lda, None) => usage("an address is two words: low and high"),
+        (Kind::Lbn | Kind::Fileid, Some(_)) => {
+            return Err(Problem::Usage("an LBN or a FileID is one number".into()))
+        }
+        (Kind::Pda | Kind::Lda, None) => {
+            return Err(Problem::Usage("an address is two words: low and high".into()))
+        }
     })
 }
 
-fn decimal(text: &str) -> Result<u32, Box<dyn Error>> {
-    Ok(text.parse().unwrap_or_else(|_| usage(&format!("{text} is not a decimal number"))))
+fn decimal(text: &str) -> Result<u32, Problem> {
+    text.parse().map_err(|_| Problem::Usage(format!("{text} is not a decimal number")))
 }
 
-fn octal(low: &str, high: &str) -> Result<u32, Box<dyn Error>> {
+fn octal(low: &str, high: &str) -> Result<u32, Problem> {
     let word = |text: &str| {
         u16::from_str_radix(text, 8)
-            .unwrap_or_else(|_| usage(&format!("{text} is not a word in octal")))
+            .map_err(|_| Problem::Usage(format!("{text} is not a word in octal")))
     };
-    Ok(u32::from(word(low)) + 65_536 * u32::from(word(high)))
+    Ok(u32::from(word(low)?) + 65_536 * u32::from(word(high)?))
 }
 
-/// Ends the program over a wrong use, as clap does for those that it sees.
-fn usage(problem: &str) -> ! {
-    eprintln!("error: {problem}\n\nFor more information, try 'tapermoss address --help'");
-    std::process::exit(2)
-}
-
-pub fn run(arguments: &Arguments) -> Result<(), Box<dyn Error>> {
+pub fn run(arguments: &Arguments) -> Result<(), Problem> {
     let drive = arguments.drive;
     let names = names(drive, block(arguments)?)?;
-    println!("drive   {} ({drive})", drive.number());
-    println!("LBN     {}", names.lbn);
-    println!("PDA     {} O", names.pda);
-    println!("LDA     {} O", names.lda);
-    println!("FileID  {}", or_refusal(&names.fileid));
-    Ok(())
+    let rows = [
+        format!("drive   {} ({drive})\n", drive.number()),
+        format!("LBN     {}\n", names.lbn),
+        format!("PDA     {} O\n", names.pda),
+        format!("LDA     {} O\n", names.lda),
+        format!("FileID  {}\n", or_refusal(&names.fileid)),
+    ];
+    output::text(&rows.concat())
 }

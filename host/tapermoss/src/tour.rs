@@ -1,8 +1,9 @@
 //! `tapermoss tour`: the worked examples M1 to M8, converted by the library and held to the values worked out by hand.
 
 use crate::address::{names, or_refusal};
+use crate::output;
+use crate::problem::Problem;
 use perq::{Drive, Refusal, Words};
-use std::error::Error;
 
 /// One worked example: a block, and what is worked out for it.
 struct Example {
@@ -56,8 +57,8 @@ fn examples() -> [Example; 8] {
     ]
 }
 
-/// Prints an example's row; answers whether it is as worked out.
-fn row(example: &Example) -> Result<bool, Refusal> {
+/// An example's row, and whether it is as worked out.
+fn row(example: &Example) -> Result<(String, bool), Refusal> {
     let Example { name, drive, lbn, pda, lda, fileid } = *example;
     let found = names(drive, lbn)?;
     let agrees = |words: Words, worked: Option<(u16, u16)>| {
@@ -69,28 +70,31 @@ fn row(example: &Example) -> Result<bool, Refusal> {
         && perq::pda_to_lbn(drive, found.pda.0) == Ok(lbn)
         && perq::lda_to_lbn(drive, found.lda.0) == Ok(lbn);
     let verdict = if fine { "as worked out" } else { "NOT AS WORKED OUT" };
-    println!(
-        "{name:<4} {:<21} {lbn:>6}   {}   {}   {:>12}   {verdict}",
+    let row = format!(
+        "{name:<4} {:<21} {lbn:>6}   {}   {}   {:>12}   {verdict}\n",
         drive.to_string(),
         found.pda,
         found.lda,
         or_refusal(&found.fileid),
     );
-    Ok(fine)
+    Ok((row, fine))
 }
 
-pub fn run() -> Result<(), Box<dyn Error>> {
-    println!("The worked examples, converted by the proved library; addresses in octal, low word first.\n");
-    println!(
-        "{:<4} {:<21} {:>6}   {:<13}   {:<13}   {:>12}",
+pub fn run() -> Result<(), Problem> {
+    let mut text = "The worked examples, converted by the proved library; addresses in octal, low word first.\n\n".to_string();
+    text += &format!(
+        "{:<4} {:<21} {:>6}   {:<13}   {:<13}   {:>12}\n",
         "", "drive", "LBN", "PDA", "LDA", "FileID"
     );
     let mut wrong = 0;
     for example in &examples() {
-        wrong += u32::from(!row(example)?);
+        let (row, fine) = row(example)?;
+        text += &row;
+        wrong += u32::from(!fine);
     }
-    if wrong > 0 {
-        return Err(format!("{wrong} of the examples are not as worked out").into());
+    output::text(&text)?;
+    match wrong {
+        0 => Ok(()),
+        _ => Err(Problem::Refused(format!("{wrong} of the examples are not as worked out"))),
     }
-    Ok(())
 }

@@ -1,16 +1,8 @@
-//! The tool as a person runs it: what it prints, and its exit status.
+//! The tool's conversions as a person runs them: what is printed, and the exit status.
 
-use std::process::{Command, Output};
+mod common;
 
-fn tapermoss(arguments: &[&str]) -> Output {
-    Command::new(env!("CARGO_BIN_EXE_tapermoss")).args(arguments).output().expect("the tool runs")
-}
-
-fn printed(arguments: &[&str]) -> String {
-    let output = tapermoss(arguments);
-    assert_eq!(output.status.code(), Some(0), "{output:?}");
-    String::from_utf8(output.stdout).expect("text")
-}
+use common::{fails, misused, printed};
 
 const BLOCK_210: &str = "\
 drive   1 (Shugart 24 MB)
@@ -43,26 +35,26 @@ fn a_block_without_a_fileid_still_has_its_addresses() {
 
 #[test]
 fn a_refusal_is_one_sentence_and_status_1() {
-    let output = tapermoss(&["address", "--drive", "3", "lbn", "432"]);
-    assert_eq!(output.status.code(), Some(1));
-    let sentence =
-        "tapermoss: refused (10): this number is no block, address or FileID of the drive\n";
-    assert_eq!(String::from_utf8_lossy(&output.stderr), sentence);
-    assert!(output.stdout.is_empty());
+    let sentence = "refused (10): this number is no block, address or FileID of the drive";
+    fails(&["address", "--drive", "3", "lbn", "432"], sentence);
+    fails(&["address", "--drive", "0", "pda", "0", "0"], sentence);
+    fails(&["address", "--drive", "0", "lda", "1", "140000"], sentence);
+    fails(&["address", "--drive", "3", "fileid", "210"], sentence);
 }
 
 #[test]
 fn a_wrong_use_has_status_2() {
-    let uses: [&[&str]; 6] = [
+    let uses: [&[&str]; 7] = [
         &["address", "lbn", "1"],
         &["address", "--drive", "4", "lbn", "1"],
         &["address", "--drive", "0", "pda", "1"],
         &["address", "--drive", "0", "lbn", "1", "2"],
         &["address", "--drive", "0", "lda", "9", "0"],
+        &["address", "--drive", "0", "lbn", "x"],
         &["nothing"],
     ];
     for arguments in uses {
-        assert_eq!(tapermoss(arguments).status.code(), Some(2), "{arguments:?}");
+        misused(arguments);
     }
 }
 

@@ -1,0 +1,63 @@
+//! The fields of a record that the tool itself reads or sets, by their places in docs/LAYOUT.md, and the names in them.
+
+use perq::{DESCRIPTION, RECORD};
+
+/// Data words of a partition's first block, and of the device's own block, LBN 0.
+pub const PARTITION_NAME: usize = 114;
+pub const PARTITION_END: usize = 120;
+pub const SUB_PARTITIONS: usize = 122;
+/// How many LDAs the table at SUB_PARTITIONS has.
+pub const TABLE: usize = 64;
+
+/// Data words of a file's own block.
+pub const DIRECT: usize = 52;
+pub const INDIRECT: usize = 180;
+pub const KIND: usize = 248;
+pub const BLOCKS_IN_USE: usize = 249;
+pub const LAST_BLOCK: usize = 250;
+
+/// The first byte of the name in a description: word 11.
+pub const NAME_AT: usize = 2 * 11;
+/// The most characters that a file's name has room for.
+pub const NAME_ROOM: usize = DESCRIPTION - NAME_AT - 1;
+
+/// Where data word k of block b lies in an image.
+pub fn place(b: u32, k: usize) -> usize {
+    RECORD * b as usize + 16 + 2 * k
+}
+
+/// Data word k of block b, which the image has.
+pub fn word(image: &[u8], b: u32, k: usize) -> u16 {
+    let at = place(b, k);
+    u16::from_le_bytes([image[at], image[at + 1]])
+}
+
+/// Data words k and k + 1 of block b as one address.
+pub fn pair(image: &[u8], b: u32, k: usize) -> u32 {
+    u32::from(word(image, b, k)) + 65_536 * u32::from(word(image, b, k + 1))
+}
+
+/// Bytes as a text: what cannot be printed is escaped.
+pub fn escaped(bytes: &[u8]) -> String {
+    let shown = |&byte: &u8| match byte {
+        b'\\' => "\\\\".to_string(),
+        b' '..=b'~' => char::from(byte).to_string(),
+        _ => format!("\\x{byte:02x}"),
+    };
+    bytes.iter().map(shown).collect()
+}
+
+/// The name of a partition or of the device: up to eight characters, blanks or zeros after them.
+pub fn partition_name(image: &[u8], b: u32) -> String {
+    let bytes = &image[place(b, PARTITION_NAME)..][..8];
+    let length =
+        bytes.iter().rposition(|&byte| byte != 0 && byte != b' ').map_or(0, |last| last + 1);
+    escaped(&bytes[..length])
+}
+
+/// The name of a file, from its description: a length and so many characters. None if the length is 0 or more than
+/// there is room for.
+pub fn file_name(description: &[u8; DESCRIPTION]) -> Option<String> {
+    let length = usize::from(description[NAME_AT]);
+    (1..=NAME_ROOM).contains(&length).then(|| escaped(&description[NAME_AT + 1..][..length]))
+}

@@ -1,0 +1,92 @@
+//! What an image says of its partitions, and what a partition says of its blocks. Whether a partition is good and
+//! whether a block is a file is the library's answer; the rest is read from fields that the answer vouches for.
+
+use crate::fields::{self, DIRECT, INDIRECT, LAST_BLOCK, PARTITION_END, SUB_PARTITIONS, TABLE};
+use perq::{Drive, Refusal};
+
+/// Every block at which a good partition starts. Asked for a file after the last block, the library looks at nothing
+/// but the partition's own block.
+pub fn good(image: &[u8], drive: Drive) -> Result<Vec<u32>, Refusal> {
+    let mut found = Vec::new();
+    for s in 0..blocks(image, drive)? {
+        match perq::next_file(image, drive, s, u32::MAX) {
+            Ok(_) => found.push(s),
+            Err(Refusal::Partition) => {}
+            Err(refusal) => return Err(refusal),
+        }
+    }
+    Ok(found)
+}
+
+/// How many blocks the image has, if it is one of the drive.
+fn blocks(image: &[u8], drive: Drive) -> Result<u32, Refusal> {
+    match perq::next_file(image, drive, 0, u32::MAX) {
+        Err(Refusal::Image) => Err(Refusal::Image),
+        _ => Ok((image.len() / perq::RECORD) as u32),
+    }
+}
+
+/// The last block of a good partition.
+pub fn last(image: &[u8], drive: Drive, s: u32) -> Result<u32, Refusal> {
+    perq::next_file(image, drive, s, u32::MAX)?;
+    perq::lda_to_lbn(drive, fields::pair(image, s, PARTITION_END))
+}
+
+/// The blocks that the device's own table, at LBN 0, lists as the starts of partitions, good or not.
+pub fn listed(image: &[u8], drive: Drive) -> Vec<u32> {
+    let lda = |i: usize| fields::pair(image, 0, SUB_PARTITIONS + 2 * i);
+    let entries = (0..TABLE).filter_map(|i| perq::lda_to_lbn(drive, lda(i)).ok());
+    let mut blocks: Vec<u32> = Vec::new();
+    for block in entries {
+        if !blocks.contains(&block) {
+            blocks.push(block);
+        }
+    }
+    blocks
+}
+
+/// The file blocks of a partition, ascending.
+pub struct Survey {
+    pub last: u32,
+    pub files: Vec<u32>,
+    pub malformed: Vec<u32>,
+}
+
+/// Asks the library about every block after the partition's first.
+pub fn survey(image: &[u8], drive: Drive, s: u32) -> Result<Survey, Refusal> {
+    let last = last(image, drive, s)?;
+    let mut survey = Survey { last, files: Vec::new(), malformed: Vec::new() };
+    for block in s + 1..=last {
+        match perq::description(image, drive, s, block) {
+            Ok(_) => survey.files.push(block),
+            Err(Refusal::Malformed { .. }) => survey.malformed.push(block),
+            Err(_) => {}
+        }
+    }
+    Ok(survey)
+}
+
+/// How many blocks of data a file has: L + 1.
+pub fn length(image: &[u8], f: u32) -> u32 {
+    (fields::word(image, f, LAST_BLOCK) as i16 + 1) as u32
+}
+
+/// The blocks that a file's index names.
+pub struct Index {
+    pub pointers: Vec<u32>,
+    pub data: Vec<u32>,
+}
+
+/// The index of a file, which the library has found to be well formed: every entry that it needs is an address.
+pub fn index(image: &[u8], drive: Drive, f: u32) -> Index {
+    let named = |block: u32, k: usize| perq::lda_to_lbn(drive, fields::pair(image, block, k)).ok();
+    let length = length(image, f) as usize;
+    let pointers: Vec<u32> = (0..length.saturating_sub(64).div_ceil(128))
+        .filter_map(|i| named(f, INDIRECT + 2 * i))
+        .collect();
+    let direct = (0..length.min(64)).filter_map(|r| named(f, DIRECT + 2 * r));
+    let indirect =
+        (64..length).filter_map(|r| named(*pointers.get((r - 64) / 128)?, 2 * ((r - 64) % 128)));
+    let data = direct.chain(indirect).collect();
+    Index { pointers, data }
+}

@@ -1,0 +1,45 @@
+//! The help: every command that is there has examples, and they are of that command.
+
+mod common;
+
+use common::printed;
+
+/// The commands that the help lists.
+fn commands() -> Vec<String> {
+    let help = printed(&["--help"]);
+    let (_, list) = help.split_once("Commands:\n").expect("a list of commands");
+    let (list, _) = list.split_once("\n\n").expect("its end");
+    let names = list.lines().filter_map(|line| line.split_whitespace().next());
+    names.filter(|&name| name != "help").map(str::to_string).collect()
+}
+
+#[test]
+fn the_commands_are_those_of_the_groups_that_are_exported() {
+    let conversions = ["address", "tour"].as_slice();
+    let reading = ["partitions", "check", "files", "cat", "show", "map"].as_slice();
+    let changing =
+        ["repair", "batch", "create", "write", "describe", "destroy", "fresh"].as_slice();
+    let mut expected = conversions.to_vec();
+    if cfg!(feature = "reading") {
+        expected.extend(reading);
+    }
+    if cfg!(feature = "changing") {
+        expected.extend(changing);
+    }
+    let mut found = commands();
+    found.sort();
+    expected.sort_unstable();
+    assert_eq!(found, expected);
+}
+
+#[test]
+fn every_command_has_an_example_in_its_help() {
+    for command in commands() {
+        let help = printed(&[&command, "--help"]);
+        let (_, examples) = help.split_once("Example").expect("examples in the help");
+        let lines: Vec<&str> = examples.lines().skip(1).collect();
+        assert!(!lines.is_empty(), "{command}");
+        let start = format!("  tapermoss {command}");
+        assert!(lines.iter().all(|line| line.starts_with(&start)), "{help}");
+    }
+}
