@@ -165,6 +165,15 @@ shownPair-fits d original repaired s f r = go (shown d repaired s f r) (shown-fi
     go Absent h k = tt
     go (Refused y) h k = k
 
+pub shownPair-image : (d : ℕ) (original repaired : List ℕ) (s f r : ℕ) → shownPair d original repaired s f r .image < 4294967296
+unfolding shownPair
+shownPair-image d original repaired s f r = go (shown d repaired s f r)
+  where
+    go : (x : Outcome) → eitherOf x (shown d original s f r) .image < 4294967296
+    go (Done a b c) = omega arith
+    go Absent = omega arith
+    go (Refused y) = omega arith
+
 -- ---- changing calls
 
 pickp-fits : (t : Bool) (x y : Planned) → (t ≡ true → OutcomeFits (x .outcome)) → (t ≡ false → OutcomeFits (y .outcome)) → OutcomeFits (pick t x y .outcome)

@@ -10,6 +10,8 @@ use base::Refusal;
 use drive::Converted;
 use volume::Outcome;
 
+mod reading; // reading.rt: the calls that change nothing
+
 // An answer as seven numbers: see include/perq.h.
 #[repr(C)]
 pub struct PerqAnswer {
@@ -20,6 +22,12 @@ pub struct PerqAnswer {
     pub a: u32,
     pub b: u32,
     pub c: u32,
+}
+
+fn wide(x: u32) -> usize
+    ensures { λ r. ⌜ (r ≡ x) × (r < 4294967296) ⌝ }
+{
+    x as usize
 }
 
 fn narrow(x: usize) -> u32

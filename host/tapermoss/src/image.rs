@@ -1,7 +1,8 @@
 //! An image as a command is given it: the file, the drive and the partition, named or found.
 
+use crate::asked::{not_an_image, Asked};
 use crate::drive;
-use crate::problem::{not_an_image, Asked, Problem};
+use crate::problem::Problem;
 use crate::volume;
 use clap::Args;
 use memmap2::Mmap;

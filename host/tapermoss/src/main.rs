@@ -2,6 +2,8 @@
 //! A command is compiled in where the library exports the calls that it needs.
 
 mod address;
+#[cfg(feature = "reading")]
+mod asked;
 #[cfg(feature = "changing")]
 mod batch;
 #[cfg(feature = "reading")]

@@ -1,7 +1,8 @@
 //! `tapermoss partitions`: every block at which a good partition starts, and what the device's own table says of it.
 
+use crate::asked::Asked;
 use crate::image::{map, the_drive, ImageArguments};
-use crate::problem::{Asked, Problem};
+use crate::problem::Problem;
 use crate::{fields, output, volume};
 use clap::Args;
 use perq::{Drive, RECORD};

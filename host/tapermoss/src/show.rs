@@ -1,8 +1,9 @@
 //! `tapermoss show`: one block of a file, from an image or from a pair of an original and a repaired one.
 
+use crate::asked::Asked;
 use crate::image::{map, the_drive, the_partition, Bytes, DriveArguments};
 use crate::output;
-use crate::problem::{Asked, Problem};
+use crate::problem::Problem;
 use clap::Args;
 use perq::{Drive, Shown, Source, DATA, RECORD};
 use std::path::PathBuf;

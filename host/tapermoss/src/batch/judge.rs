@@ -1,9 +1,10 @@
 //! One image of a batch: what its partitions are, how they stand, and what is done about it.
 
+use crate::asked::Asked;
 use crate::changing::permissions;
 use crate::image::{copy, listed, the_drive};
 use crate::keep::{self, Existing};
-use crate::problem::{Asked, Problem};
+use crate::problem::Problem;
 use crate::volume;
 use perq::{Drive, Refusal, Summary, ALL};
 use std::path::{Path, PathBuf};

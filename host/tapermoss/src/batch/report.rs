@@ -49,7 +49,7 @@ fn remark(judged: &Judged) -> String {
 
 pub fn as_text(rows: &[(String, Judged)]) -> String {
     let width = rows.iter().map(|(name, _)| name.chars().count()).max().unwrap_or(0).max(5);
-    let mut text = format!("{:<width$}  {:<9}\n", "image", "outcome");
+    let mut text = format!("{:<width$}  outcome\n", "image");
     for (name, judged) in rows {
         let outcome = OUTCOMES[rank(&judged.outcome)].0;
         text += &format!("{name:<width$}  {outcome:<9}  {}\n", remark(judged));

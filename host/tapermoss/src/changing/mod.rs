@@ -8,10 +8,11 @@ pub mod fresh;
 pub mod repair;
 pub mod write;
 
+use crate::asked::Asked;
 use crate::image::{copy, the_drive, the_partition, PartitionArguments};
 use crate::keep::{self, Existing};
 use crate::output;
-use crate::problem::{Asked, Problem};
+use crate::problem::Problem;
 use clap::Args;
 use perq::{Drive, ALL};
 use std::fs;

@@ -1,0 +1,49 @@
+// The calls that change nothing, for a host.
+ghost use mathlib.Core.Path.{_≡_};
+ghost use Rattle.volume.specs.Answers.{nextFile, shown, shownPair};
+ghost use Rattle.perq.specs.Flat.{flat, flatFrom};
+use crate::PerqAnswer;
+
+// The lowest file above `after`.
+#[no_mangle]
+pub extern "C" fn perq_next_file(image: &[u8], drive: u32, s: u32, after: u32) -> PerqAnswer
+    ensures { λ a. ⌜ a ≡ flat 0 (nextFile drive (now (image .entry)) s after) ⌝ }
+{
+    let d = crate::wide(drive);
+    let p = crate::wide(s);
+    let b = crate::wide(after);
+    crate::flat(0, inspect::next_file(image, d, p, b))
+}
+
+// Where the bytes of block r stand in the image.
+#[no_mangle]
+pub extern "C" fn perq_show(image: &[u8], drive: u32, s: u32, f: u32, r: u32) -> PerqAnswer
+    ensures { λ a. ⌜ a ≡ flat 0 (shown drive (now (image .entry)) s f r) ⌝ }
+{
+    let d = crate::wide(drive);
+    let p = crate::wide(s);
+    let g = crate::wide(f);
+    let n = crate::wide(r);
+    crate::flat(0, inspect::shows::show_answer(image, d, p, g, n))
+}
+
+// Where the bytes of block r stand in the repaired image, or where that refuses in the original.
+#[no_mangle]
+pub extern "C" fn perq_show_pair(
+    original: &[u8],
+    repaired: &[u8],
+    drive: u32,
+    s: u32,
+    f: u32,
+    r: u32,
+) -> PerqAnswer
+    ensures { λ a. ⌜ a ≡ flatFrom (shownPair drive (now (original .entry)) (now (repaired .entry)) s f r .image) (shownPair drive (now (original .entry)) (now (repaired .entry)) s f r .outcome) ⌝ }
+{
+    let d = crate::wide(drive);
+    let p = crate::wide(s);
+    let g = crate::wide(f);
+    let n = crate::wide(r);
+    let x = inspect::shows::show_pair_answer(original, repaired, d, p, g, n);
+    let o = x.outcome;
+    crate::flat_from(x.image, o)
+}
