@@ -155,6 +155,9 @@ plain-fits (Done a b c) h = (omega arith, omega arith, omega arith)
 plain-fits Absent h = h
 plain-fits (Refused y) h = h
 
+pub read-fits : (d : ℕ) (l : List ℕ) (s f r n : ℕ) → OutcomeFits (plain (readFrom d l s f r n))
+read-fits d l s f r n = plain-fits (readFrom d l s f r n) (readFrom-fits d l s f r n)
+
 -- an answer of show of a pair
 pub shownPair-fits : (d : ℕ) (original repaired : List ℕ) (s f r : ℕ) → OutcomeFits (shownPair d original repaired s f r .outcome)
 unfolding shownPair

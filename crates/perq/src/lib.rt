@@ -10,7 +10,7 @@ use base::Refusal;
 use drive::Converted;
 use volume::Outcome;
 
-mod reading; // reading.rt: the calls that change nothing
+mod reads; // reads.rt: the calls that change nothing
 
 // An answer as seven numbers: see include/perq.h.
 #[repr(C)]

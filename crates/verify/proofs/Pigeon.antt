@@ -1,0 +1,176 @@
+-- Occurrences: a fine list has no block twice, so as many blocks as are unowned means each of them once. Assumes nothing.
+use mathlib.Core.Path.{_≡_, refl, sym, ap, _∙_}
+use mathlib.Core.List.{List, [], _∷_}
+use mathlib.Core.Logic.{⊎-elim}
+use mathlib.Core.Bool.{Bool, true, false, not, true≢false}
+use Prim.Native.Nat.{ℕ, zero, suc, _+_, _-_, _≤_, _<_}
+use native.Mathlib.Omega.{arith}
+use native.Mathlib.Nat.{eq-or-lt-of-le}
+use lib.Dec.{eqb}
+use lib.ListN.{length}
+use borrow.Author.Tests.{eq-eqb, ne-eqb, eqb-true, eqb-false}
+use Rattle.base.specs.Tests.{pick, all, count, occ, headOf}
+use Rattle.drive.specs.Address.{pda, pdaBlock}
+use Rattle.drive.specs.Laws.{pda-back, pda-pos}
+use Rattle.image.specs.View.{View}
+use Rattle.base.specs.Laws.{both-of, both-left, both-right, all-at, all-of}
+use Rattle.volume.specs.Files.{Partition, onceTest, inside, orNil, owned, within}
+use Rattle.volume.specs.Reads.{inside-of}
+use Rattle.verify.specs.Walks.{freeAt}
+use Rattle.verify.proofs.Free.{Fine, noneOwned, fine-next, fine-here, fine-rest}
+
+unfoldable pub total : ℕ → (ℕ → ℕ) → ℕ
+total zero f = zero
+total (suc k) f = f k + total k f
+
+total-same : (k : ℕ) (f g : ℕ → ℕ) → ((i : ℕ) → i < k → f i ≡ g i) → total k f ≡ total k g
+unfolding total
+total-same zero f g h = refl
+total-same (suc k) f g h = rw (h k (omega arith), total-same k f g (λ i l. h i (omega arith)))
+
+total-add : (k : ℕ) (f g : ℕ → ℕ) → total k (λ i. f i + g i) ≡ total k f + total k g
+unfolding total
+total-add zero f g = refl
+total-add (suc k) f g = let q = total-add k f g in omega arith
+
+total-le : (k : ℕ) (f g : ℕ → ℕ) → ((i : ℕ) → i < k → f i ≤ g i) → total k f ≤ total k g
+unfolding total
+total-le zero f g h = omega arith
+total-le (suc k) f g h = omega (arith, h k (omega arith), total-le k f g (λ i l. h i (omega arith)))
+
+-- the pigeonhole: nowhere more, and the same in all, is the same everywhere
+total-equal : (k : ℕ) (f g : ℕ → ℕ) → ((i : ℕ) → i < k → f i ≤ g i) → total k f ≡ total k g → (i : ℕ) → i < k → f i ≡ g i
+unfolding total
+total-equal zero f g h q i l = absurd (omega arith)
+total-equal (suc k) f g h q i l =
+    let a = h k (omega arith) in
+    let b = total-le k f g (λ j m. h j (omega arith)) in
+    let m : i ≤ k = omega arith in
+    ⊎-elim (λ z. rw z (omega arith)) (λ m. total-equal k f g (λ j m. h j (omega arith)) (omega arith) i m) (eq-or-lt-of-le m)
+
+total-none : (k s x : ℕ) → s + k < x → total k (λ i. pick (eqb (suc (s + i)) x) 1 0) ≡ 0
+unfolding total
+total-none zero s x h = refl
+total-none (suc k) s x h = rw (ne-eqb (suc (s + k)) x (λ z. omega arith), total-none k s x (omega arith))
+
+total-one : (k s x : ℕ) → s < x → x ≤ s + k → total k (λ i. pick (eqb (suc (s + i)) x) 1 0) ≡ 1
+unfolding total
+total-one zero s x l h = absurd (omega arith)
+total-one (suc k) s x l h = go (eqb (suc (s + k)) x) refl (λ m. total-one k s x l m)
+  where
+    go : (t : Bool) → eqb (suc (s + k)) x ≡ t → (x ≤ s + k → total k (λ i. pick (eqb (suc (s + i)) x) 1 0) ≡ 1)
+        → pick (eqb (suc (s + k)) x) 1 0 + total k (λ i. pick (eqb (suc (s + i)) x) 1 0) ≡ 1
+    go true q ih = rw (q, total-none k s x (omega (arith, eqb-true (suc (s + k)) x q)))
+    go false q ih = rw (q, ih (below (eqb-false (suc (s + k)) x q)))
+      where
+        below : (suc (s + k) ≡ x → ⊥) → x ≤ s + k
+        below n = ⊎-elim (λ z. absurd (n (sym z))) (λ m. omega arith) (eq-or-lt-of-le (let w : x ≤ suc (s + k) = omega arith in w))
+
+zeros : (k : ℕ) → total k (λ i. 0) ≡ 0
+unfolding total
+zeros zero = refl
+zeros (suc k) = rw (zeros k)
+
+-- the blocks of a list within the partition, counted block by block
+pub total-occ : (π : Partition) (l : List ℕ) → within π l ≡ true → total (π.e - π.s) (λ i. occ (suc (π.s + i)) l) ≡ length l
+unfolding within occ
+total-occ π [] h = zeros (π.e - π.s)
+total-occ π (x ∷ l) h =
+    let i = inside-of π x (both-left _ _ h) in
+    let q = total-occ π l (both-right _ _ h) in
+    total-add (π.e - π.s) (λ i. pick (eqb (suc (π.s + i)) x) 1 0) (λ i. occ (suc (π.s + i)) l)
+    ∙ rw (total-one (π.e - π.s) π.s x (i .0) (omega (arith, i .0, i .1)), q) (omega arith)
+
+pub count-total : (k : ℕ) (P : ℕ → Bool) → count k P ≡ total k (λ i. pick (P i) 1 0)
+unfolding count total
+count-total zero P = refl
+count-total (suc k) P = ap (λ (n : ℕ). pick (P k) 1 0 + n) (count-total k P)
+
+module _ (π : Partition) (v : View) where
+  some : (b : ℕ) → inside π b ≡ true → orNil π b ≡ pda π.drive b
+  some b i = rw (ne-eqb b 0 (λ z. omega (arith, inside-of π b i .0)))
+
+  -- two fine lists from one block are equally long
+  same-length : (l m : List ℕ) (p q x : ℕ) → Fine π v p (x ∷ l) → Fine π v q (x ∷ m) → length l ≡ length m
+  unfolding headOf
+  same-length [] [] p q x f g = refl
+  same-length [] (y ∷ m) p q x f g = absurd (omega (arith, pda-pos π.drive y, sym (some y (fine-here π v x y m (fine-rest π v q x (y ∷ m) g))) ∙ sym (fine-next π v q x (y ∷ m) g) ∙ fine-next π v p x [] f))
+  same-length (y ∷ l) [] p q x f g = absurd (omega (arith, pda-pos π.drive y, sym (some y (fine-here π v x y l (fine-rest π v p x (y ∷ l) f))) ∙ sym (fine-next π v p x (y ∷ l) f) ∙ fine-next π v q x [] g))
+  same-length (y ∷ l) (z ∷ m) p q x f g =
+      let f′ = fine-rest π v p x (y ∷ l) f in
+      let g′ = fine-rest π v q x (z ∷ m) g in
+      let a : pda π.drive y ≡ pda π.drive z = sym (some y (fine-here π v x y l f′)) ∙ sym (fine-next π v p x (y ∷ l) f) ∙ fine-next π v q x (z ∷ m) g ∙ some z (fine-here π v x z m g′) in
+      let b : y ≡ z = sym (pda-back π.drive y) ∙ ap (pdaBlock π.drive) a ∙ pda-back π.drive z in
+      ap suc (same-length l m x x y f′ (rw b g′))
+
+  -- the first block does not come again
+  fresh : (l : List ℕ) (p q x : ℕ) (xs : List ℕ) → Fine π v p (x ∷ xs) → Fine π v q l → length l ≤ length xs → occ x l ≡ 0
+  unfolding occ
+  fresh [] p q x xs f g h = refl
+  fresh (y ∷ l) p q x xs f g h = go (eqb x y) refl (fresh l p y x xs f (fine-rest π v q y l g) (omega arith))
+    where
+      go : (t : Bool) → eqb x y ≡ t → occ x l ≡ 0 → pick (eqb x y) 1 0 + occ x l ≡ 0
+      go true z r = absurd (omega (arith, same-length xs l p q x f (rw (eqb-true x y z) g)))
+      go false z r = rw z (omega arith)
+
+  pub once : (l : List ℕ) (p b : ℕ) → Fine π v p l → occ b l ≤ 1
+  unfolding occ
+  once [] p b f = omega arith
+  once (x ∷ l) p b f = go (eqb b x) refl (once l x b (fine-rest π v p x l f)) (fresh l p x x l f (fine-rest π v p x l f) (omega arith))
+    where
+      go : (t : Bool) → eqb b x ≡ t → occ b l ≤ 1 → occ x l ≡ 0 → pick (eqb b x) 1 0 + occ b l ≤ 1
+      go true z r w = rw z (omega (arith, ap (λ (y : ℕ). occ y l) (eqb-true b x z)))
+      go false z r w = rw z (omega arith)
+
+  pub owned-none : (l : List ℕ) (b : ℕ) → noneOwned π v l ≡ true → owned π v b ≡ true → occ b l ≡ 0
+  unfolding occ noneOwned
+  owned-none [] b h o = refl
+  owned-none (x ∷ l) b h o = go (eqb b x) refl (owned-none l b (both-right _ _ h) o)
+    where
+      go : (t : Bool) → eqb b x ≡ t → occ b l ≡ 0 → pick (eqb b x) 1 0 + occ b l ≡ 0
+      go true z r = absurd (true≢false (sym (both-left _ _ h) ∙ ap not (sym (ap (owned π v) (eqb-true b x z)) ∙ o)))
+      go false z r = rw z (omega arith)
+
+  turned : (t : Bool) → pick {A = ℕ} (not t) 1 0 ≡ pick t 0 1
+  turned true = refl
+  turned false = refl
+
+  free-total : count (π.e - π.s) (freeAt π v) ≡ total (π.e - π.s) (λ i. pick (owned π v (suc (π.s + i))) 0 1)
+  free-total = count-total (π.e - π.s) (freeAt π v) ∙ total-same (π.e - π.s) _ _ (λ i l. turned (owned π v (suc (π.s + i))))
+
+  -- as many as are unowned: each of them once, and no owned one
+  pub all-there : (l : List ℕ) → Fine π v 0 l → length l ≡ count (π.e - π.s) (freeAt π v) → all (π.e - π.s) (onceTest π v l) ≡ true
+  all-there l f h = all-of (π.e - π.s) (onceTest π v l) (λ i m. eq-eqb _ _ (total-equal (π.e - π.s) (λ i. occ (suc (π.s + i)) l) (λ i. pick (owned π v (suc (π.s + i))) 0 1) few (total-occ π l (f .ins) ∙ h ∙ free-total) i m))
+    where
+      few : (i : ℕ) → i < π.e - π.s → occ (suc (π.s + i)) l ≤ pick (owned π v (suc (π.s + i))) 0 1
+      few i m = go (owned π v (suc (π.s + i))) refl
+        where
+          go : (t : Bool) → owned π v (suc (π.s + i)) ≡ t → occ (suc (π.s + i)) l ≤ pick (owned π v (suc (π.s + i))) 0 1
+          go true o = rw (owned-none l (suc (π.s + i)) (f .unowned) o, o) (omega arith)
+          go false o = rw o (once l 0 (suc (π.s + i)) f)
+
+  -- and back
+  pub there-many : (l : List ℕ) → within π l ≡ true → all (π.e - π.s) (onceTest π v l) ≡ true → length l ≡ count (π.e - π.s) (freeAt π v)
+  there-many l w h = sym (total-occ π l w) ∙ total-same (π.e - π.s) _ _ (λ i m. eqb-true _ _ (all-at (π.e - π.s) (onceTest π v l) h i m)) ∙ sym free-total
+
+  none-of : (l : List ℕ) → within π l ≡ true → ((b : ℕ) → inside π b ≡ true → owned π v b ≡ true → occ b l ≡ 0) → noneOwned π v l ≡ true
+  unfolding occ noneOwned within
+  none-of [] w h = refl
+  none-of (x ∷ l) w h = both-of (go (owned π v x) refl) (none-of l (both-right _ _ w) (λ b i o. less b (h b i o)))
+    where
+      go : (t : Bool) → owned π v x ≡ t → not (owned π v x) ≡ true
+      go false o = rw o
+      go true o = absurd (let q : pick (eqb x x) 1 0 + occ x l ≡ 0 = h x (both-left _ _ w) o in let z = rw (eq-eqb x x refl) at q in omega arith)
+
+      less : (b : ℕ) → pick (eqb b x) 1 0 + occ b l ≡ 0 → occ b l ≡ 0
+      less b q = omega arith
+
+  pub there-none : (l : List ℕ) → within π l ≡ true → all (π.e - π.s) (onceTest π v l) ≡ true → noneOwned π v l ≡ true
+  there-none l w h = none-of l w (λ b i o. at b (inside-of π b i) o)
+    where
+      at : (b : ℕ) → (π.s < b) × (b ≤ π.e) → owned π v b ≡ true → occ b l ≡ 0
+      at b i o =
+          let n : ℕ = b - suc π.s in
+          let q : suc (π.s + n) ≡ b = omega (arith, i .0) in
+          let r = eqb-true (occ (suc (π.s + n)) l) _ (all-at (π.e - π.s) (onceTest π v l) h n (omega (arith, i .0, i .1))) in
+          sym (ap (λ (y : ℕ). occ y l) q) ∙ r ∙ ap (λ (t : Bool). pick t 0 1) (ap (owned π v) q ∙ o)

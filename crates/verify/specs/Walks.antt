@@ -1,0 +1,46 @@
+-- The walk of the free chain as the code makes it, and what check counts.
+use mathlib.Core.Bool.{Bool, not}
+use Prim.Native.Nat.{ℕ, zero, suc, _+_, _-_}
+use lib.Dec.{eqb}
+use Rattle.base.specs.Tests.{pick, both, every}
+use mathlib.Core.List.{[], _∷_}
+use Rattle.drive.specs.Address.{pda, pdaBlock}
+use Rattle.image.specs.View.{View, pair}
+use Rattle.volume.specs.Words.{nextAt, previousAt, freeHeadAt, freeTailAt, numberFreeAt}
+use Rattle.volume.specs.Files.{Partition, blockAt, inside, isLda, orNil, isFile, owned, freeHead}
+use Rattle.verify.specs.declared.Step.{Step}
+use Rattle.verify.specs.declared.Step.the-variants.{Bad, End, On}
+use Rattle.verify.specs.declared.Walk.{Walk}
+use Rattle.verify.specs.declared.Walk.the-variants.{Wrong, Free}
+
+-- where the next link x leads: nil is the end, and the PDA of a block of s+1..e that block
+unfoldable pub onward : Partition → ℕ → Step
+onward π x = let c = pdaBlock π.drive x in pick (eqb x 0) End (pick (both (inside π c) (eqb (pda π.drive c) x)) (On c) Bad)
+
+module _ (π : Partition) (v : View) where
+  -- from block b, which follows `before`
+  unfoldable pub stepAt : ℕ → ℕ → Step
+  stepAt before b = pick (owned π v b) Bad (pick (eqb (pair v b previousAt) (orNil π before)) (onward π (pair v b nextAt)) Bad)
+
+  -- at most k blocks from b on, with n passed: how many there are, and the last
+  unfoldable pub walk : ℕ → ℕ → ℕ → ℕ → Walk
+  walk zero before b n = Wrong
+  walk (suc k) before b n = elim (stepAt before b) [ Bad ↦ Wrong | End ↦ Free (n + 1) b | On c ↦ walk k b c (n + 1) ]
+
+  unfoldable pub walked : Walk
+  walked = pick (inside π (freeHead π v)) (walk (π.e - π.s) 0 (freeHead π v) 0) Wrong
+
+  -- FreeHead is an LDA, FreeTail that of the last block, and NumberFree is n
+  unfoldable pub named : ℕ → ℕ → Bool
+  named n last =
+      every (isLda π (pair v π.s freeHeadAt) (freeHead π v)
+      ∷ isLda π (pair v π.s freeTailAt) last
+      ∷ eqb (pair v π.s numberFreeAt) n
+      ∷ [])
+
+  -- block i of s+1..e is a file, and is not owned
+  abbrev pub fileAt : ℕ → Bool
+  fileAt i = isFile π v (blockAt π i)
+
+  abbrev pub freeAt : ℕ → Bool
+  freeAt i = not (owned π v (blockAt π i))

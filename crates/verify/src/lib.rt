@@ -1,0 +1,252 @@
+// Code that decides soundness: the walk of the free chain, the count of unowned blocks, and check.
+ghost use mathlib.Core.Path.{_≡_};
+ghost use mathlib.Core.Bool.{true};
+ghost use Prim.Native.Nat.{_+_, _-_, _≤_, _<_};
+ghost use Rattle.base.specs.Tests.{count};
+ghost use Rattle.image.specs.Image.{view};
+ghost use Rattle.volume.specs.Files.{partitionOf, orNil, freeSound, sound};
+ghost use Rattle.volume.specs.Answers.{Unmarred, tallied, checked};
+ghost use Rattle.volume.specs.Reads.{Lies};
+ghost use Rattle.verify.specs.Walks.{onward, stepAt, walk, walked, named, fileAt, freeAt};
+use base::Refusal;
+use volume::Found;
+use volume::Outcome;
+use volume::Part;
+
+// Words of a header and of a PIB.
+const NEXT: usize = 4;
+
+const PREVIOUS: usize = 6;
+
+const FREE_HEAD: usize = 8;
+
+const FREE_TAIL: usize = 10;
+
+const NUMBER_FREE: usize = 12;
+
+// Where the free chain goes from a block: nowhere by a wrong link, to its end, or on to a block.
+pub enum Step {
+    Bad,
+    End,
+    On(usize),
+}
+
+// What a walk of the free chain finds: a wrong link, or how many blocks and the last of them.
+pub enum Walk {
+    Wrong,
+    Free(usize, usize),
+}
+
+// The PDA of a block, or nil for 0.
+fn or_nil(drive: usize, s: usize, e: usize, b: usize) -> usize
+    requires { ⌜ b < 69552 ⌝ }
+    ensures { λ r. ⌜ r ≡ orNil (partitionOf drive s e) b ⌝ }
+{
+    if b == 0 { 0 } else { drive::pda(drive, b) }
+}
+
+// Where the next link x leads.
+fn onward(drive: usize, s: usize, e: usize, x: usize) -> Step
+    requires { ⌜ x < 4294967296 ⌝ }
+    ensures { λ r. ⌜ r ≡ onward (partitionOf drive s e) x ⌝ }
+{
+    if x == 0 {
+        return Step::End;
+    }
+    let c = drive::pda_block(drive, x);
+    if c <= s {
+        return Step::Bad;
+    }
+    if e < c {
+        return Step::Bad;
+    }
+    if drive::pda(drive, c) == x {
+        Step::On(c)
+    } else {
+        Step::Bad
+    }
+}
+
+// Where the chain goes from block b, which follows `before`.
+fn step_at(img: &[u8], drive: usize, s: usize, e: usize, before: usize, b: usize) -> Step
+    requires { ⌜ (Lies drive (now img) s e) × (b ≤ e) × (before ≤ e) × (Unmarred (partitionOf drive s e) (view (now img))) ⌝ }
+    ensures { λ r. ⌜ r ≡ stepAt (partitionOf drive s e) (view (now (img .entry))) before b ⌝ }
+{
+    if links::owned(img, drive, s, e, b) {
+        return Step::Bad;
+    }
+    if image::pair(img, b, PREVIOUS) == or_nil(drive, s, e, before) {
+        onward(drive, s, e, image::pair(img, b, NEXT))
+    } else {
+        Step::Bad
+    }
+}
+
+// The chain from `head` on: left at the first wrong link, or at its end with the count.
+fn walk_from(img: &[u8], drive: usize, s: usize, e: usize, head: usize) -> Walk
+    requires { ⌜ (Lies drive (now img) s e) × (head ≤ e) × (Unmarred (partitionOf drive s e) (view (now img))) ⌝ }
+    ensures { λ r. ⌜ r ≡ walk (partitionOf drive s e) (view (now (img .entry))) (e - s) 0 head 0 ⌝ }
+{
+    let most = e - s;
+    let mut before: usize = 0;
+    let mut b = head;
+    let mut n: usize = 0;
+    loop {
+        if n >= most {
+            break Walk::Wrong;
+        }
+        let x = step_at(img, drive, s, e, before, b);
+        match x {
+            Step::Bad => {
+                break Walk::Wrong;
+            }
+            Step::End => {
+                break Walk::Free(n + 1, b);
+            }
+            Step::On(c) => {
+                before = b;
+                b = c;
+                n += 1;
+            }
+        }
+    }
+}
+
+// The free chain from FreeHead on.
+fn walked(img: &[u8], drive: usize, s: usize, e: usize) -> Walk
+    requires { ⌜ (Lies drive (now img) s e) × (Unmarred (partitionOf drive s e) (view (now img))) ⌝ }
+    ensures { λ r. ⌜ r ≡ walked (partitionOf drive s e) (view (now (img .entry))) ⌝ }
+{
+    let head = drive::lda_block(drive, image::pair(img, s, FREE_HEAD));
+    if head <= s {
+        return Walk::Wrong;
+    }
+    if e < head {
+        return Walk::Wrong;
+    }
+    walk_from(img, drive, s, e, head)
+}
+
+// Whether block i of s+1..e is not owned.
+fn is_free(img: &[u8], drive: usize, s: usize, e: usize, i: usize) -> bool
+    requires { ⌜ (Lies drive (now img) s e) × (s + i < e) × (Unmarred (partitionOf drive s e) (view (now img))) ⌝ }
+    ensures { λ r. ⌜ r ≡ freeAt (partitionOf drive s e) (view (now (img .entry))) i ⌝ }
+{
+    !links::owned(img, drive, s, e, s + i + 1)
+}
+
+// How many blocks are not owned.
+fn count_free(img: &[u8], drive: usize, s: usize, e: usize) -> usize
+    requires { ⌜ (Lies drive (now img) s e) × (Unmarred (partitionOf drive s e) (view (now img))) ⌝ }
+    ensures { λ r. ⌜ r ≡ count (e - s) (freeAt (partitionOf drive s e) (view (now (img .entry)))) ⌝ }
+{
+    let m = e - s;
+    let mut n: usize = 0;
+    for i in 0..m {
+        if is_free(img, drive, s, e, i) {
+            n += 1;
+            continue;
+        }
+    }
+    n
+}
+
+// Whether block i of s+1..e is a file: a candidate is one where none is malformed.
+fn is_file(img: &[u8], drive: usize, s: usize, e: usize, i: usize) -> bool
+    requires { ⌜ (Lies drive (now img) s e) × (s + i < e) × (Unmarred (partitionOf drive s e) (view (now img))) ⌝ }
+    ensures { λ r. ⌜ r ≡ fileAt (partitionOf drive s e) (view (now (img .entry))) i ⌝ }
+{
+    inspect::candidate(img, drive, s, e, s + i + 1)
+}
+
+// How many files there are.
+fn count_files(img: &[u8], drive: usize, s: usize, e: usize) -> usize
+    requires { ⌜ (Lies drive (now img) s e) × (Unmarred (partitionOf drive s e) (view (now img))) ⌝ }
+    ensures { λ r. ⌜ r ≡ count (e - s) (fileAt (partitionOf drive s e) (view (now (img .entry)))) ⌝ }
+{
+    let m = e - s;
+    let mut n: usize = 0;
+    for i in 0..m {
+        if is_file(img, drive, s, e, i) {
+            n += 1;
+            continue;
+        }
+    }
+    n
+}
+
+// Whether a free chain of n blocks, which ends at `last`, is the one that the PIB has.
+fn chain_named(img: &[u8], drive: usize, s: usize, e: usize, n: usize, last: usize) -> bool
+    requires { ⌜ (Lies drive (now img) s e) × (last ≤ e) ⌝ }
+    ensures { λ r. ⌜ r ≡ named (partitionOf drive s e) (view (now (img .entry))) n last ⌝ }
+{
+    let x = image::pair(img, s, FREE_HEAD);
+    if x != drive::lda(drive, drive::lda_block(drive, x)) {
+        return false;
+    }
+    if image::pair(img, s, FREE_TAIL) != drive::lda(drive, last) {
+        return false;
+    }
+    image::pair(img, s, NUMBER_FREE) == n
+}
+
+// Whether the free chain has each unowned block once and no other, and the PIB names it.
+fn free_good(img: &[u8], drive: usize, s: usize, e: usize) -> bool
+    requires { ⌜ (Lies drive (now img) s e) × (Unmarred (partitionOf drive s e) (view (now img))) ⌝ }
+    ensures { λ r. ⌜ r ≡ freeSound (partitionOf drive s e) (view (now (img .entry))) ⌝ }
+{
+    let w = walked(img, drive, s, e);
+    match w {
+        Walk::Wrong => false,
+        Walk::Free(n, last) => {
+            if n != count_free(img, drive, s, e) {
+                return false;
+            }
+            chain_named(img, drive, s, e, n, last)
+        }
+    }
+}
+
+// Whether a partition without a malformed candidate is sound.
+pub fn is_sound(img: &[u8], drive: usize, s: usize, e: usize) -> bool
+    requires { ⌜ (Lies drive (now img) s e) × (Unmarred (partitionOf drive s e) (view (now img))) ⌝ }
+    ensures { λ r. ⌜ r ≡ sound (partitionOf drive s e) (view (now (img .entry))) ⌝ }
+{
+    if links::files_good(img, drive, s, e) {
+        free_good(img, drive, s, e)
+    } else {
+        false
+    }
+}
+
+// Files, owned blocks and free blocks of a sound partition, where NumberFree is the number of blocks that are not owned.
+fn tally(img: &[u8], drive: usize, s: usize, e: usize) -> Outcome
+    requires { ⌜ (Lies drive (now img) s e) × (Unmarred (partitionOf drive s e) (view (now img))) × (sound (partitionOf drive s e) (view (now img)) ≡ true) ⌝ }
+    ensures { λ r. ⌜ r ≡ tallied (partitionOf drive s e) (view (now (img .entry))) ⌝ }
+{
+    let free = image::pair(img, s, NUMBER_FREE);
+    Outcome::Done(count_files(img, drive, s, e), e - s - free, free)
+}
+
+// Check, a public call: files, owned blocks and free blocks, or why it is refused.
+pub fn check(img: &[u8], drive: usize, s: usize) -> Outcome
+    ensures { λ r. ⌜ r ≡ checked drive (now (img .entry)) s ⌝ }
+{
+    let p = inspect::partition(img, drive, s);
+    match p {
+        Part::Refused(why) => Outcome::Refused(why),
+        Part::Good(e) => {
+            let x = inspect::lowest_malformed(img, drive, s, e);
+            match x {
+                Found::At(f) => Outcome::Refused(Refusal::Malformed(f)),
+                Found::Nothing => {
+                    if is_sound(img, drive, s, e) {
+                        tally(img, drive, s, e)
+                    } else {
+                        Outcome::Refused(Refusal::Unsound)
+                    }
+                }
+            }
+        }
+    }
+}

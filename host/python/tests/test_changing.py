@@ -1,0 +1,101 @@
+"""The changing calls: example M12 with its cuts, every refusal, and all worked cases with their whole answers."""
+import unittest
+import zlib
+
+import tapermoss
+from tapermoss import Drive, Refused, Summary
+
+from .sample import malformed, sample, set_pair
+from .worked import CHANGES, FILLS, cases
+
+DRIVE = Drive.SHUGART12
+
+
+def fresh():
+    image = tapermoss.blank(DRIVE, 8, 1, 7)
+    tapermoss.repair(image, DRIVE, 1)
+    return image
+
+
+class Changing(unittest.TestCase):
+    def refused(self, number, call, *arguments, block=0):
+        with self.assertRaises(Refused) as caught:
+            call(*arguments)
+        self.assertEqual((caught.exception.number, caught.exception.block), (number, block))
+
+    def with_one_block(self):
+        image = fresh()
+        self.assertEqual(tapermoss.create(image, DRIVE, 1), (2, 3))
+        self.assertEqual(tapermoss.write(image, DRIVE, 1, 2, 0, b'a' * 512), 4)
+        return image
+
+    def test_the_worked_example(self):
+        image = self.with_one_block()
+        self.assertEqual(tapermoss.write(image, DRIVE, 1, 2, 1, b'b' * 512), 5)
+        self.assertEqual(tapermoss.check(image, DRIVE, 1), Summary(1, 3, 3))
+        self.assertEqual(tapermoss.whole_file(image, DRIVE, 1, 2), b'a' * 512 + b'b' * 512)
+        self.assertEqual(tapermoss.destroy(image, DRIVE, 1, 2), 4)
+        self.assertEqual(tapermoss.check(image, DRIVE, 1), Summary(0, 0, 6))
+
+    def test_a_cut_is_mended_by_repair(self):
+        for limit in range(6):
+            image = self.with_one_block()
+            self.assertEqual(tapermoss.write(image, DRIVE, 1, 2, 1, b'b' * 512, limit), limit)
+            tapermoss.repair(image, DRIVE, 1)
+            expected = b'a' * 512 + (b'b' * 512 if limit >= 3 else b'')
+            self.assertEqual(tapermoss.whole_file(image, DRIVE, 1, 2), expected)
+
+    def test_describe(self):
+        image = self.with_one_block()
+        self.assertEqual(tapermoss.describe(image, DRIVE, 1, 2, bytes(range(104))), 1)
+        self.assertEqual(tapermoss.description(image, DRIVE, 1, 2), bytes(range(104)))
+
+    def test_refusals_change_nothing(self):
+        image = self.with_one_block()
+        before = bytes(image)
+        self.refused(1, tapermoss.create, bytearray(), DRIVE, 1)
+        self.refused(2, tapermoss.create, image, DRIVE, 2)
+        self.refused(3, tapermoss.write, image, DRIVE, 1, 2, 1, bytes(511))
+        self.refused(3, tapermoss.describe, image, DRIVE, 1, 2, bytes(103))
+        self.refused(6, tapermoss.destroy, image, DRIVE, 1, 3)
+        self.refused(7, tapermoss.write, image, DRIVE, 1, 2, 2, bytes(512))
+        self.assertEqual(image, before)
+        for r in (1, 2, 3):
+            tapermoss.write(image, DRIVE, 1, 2, r, bytes(512))
+        self.refused(8, tapermoss.write, image, DRIVE, 1, 2, 4, bytes(512))
+        self.refused(8, tapermoss.create, image, DRIVE, 1)
+        self.refused(4, tapermoss.repair, malformed(DRIVE), DRIVE, 1, block=2)
+        unsound = sample(DRIVE)
+        set_pair(unsound, 1, 12, 7)
+        self.refused(5, tapermoss.create, unsound, DRIVE, 1)
+        full = sample(DRIVE, n=7)
+        set_pair(full, 1, 128, tapermoss.lbn_to_lda(DRIVE, 5))
+        self.refused(9, tapermoss.repair, full, DRIVE, 1)
+
+    def test_an_image_that_cannot_be_written_is_an_error(self):
+        with self.assertRaises(BufferError):
+            tapermoss.create(bytes(fresh()), DRIVE, 1)
+        with self.assertRaises(OverflowError):
+            tapermoss.create(fresh(), DRIVE, 1, kind=65536)
+        with self.assertRaises(ValueError):
+            tapermoss.blank(DRIVE, 8, 1, 8)
+
+
+class Worked(unittest.TestCase):
+    def test_every_case(self):
+        count = 0
+        for number, image, calls in cases():
+            for name, arguments, answer, image_sum, buffer_sum in calls:
+                with self.subTest(case=number, call=name):
+                    self.made_as_worked(image, name, arguments, answer, image_sum, buffer_sum)
+                    count += 1
+        self.assertGreater(count, 2000)
+
+    def made_as_worked(self, image, name, arguments, answer, image_sum, buffer_sum):
+        # The image comes first among the arguments, a buffer that is filled comes last.
+        writable = {0} if name in CHANGES else {len(arguments)} if name in FILLS else set()
+        found = tapermoss.call(name, image, *arguments, writable=writable)
+        self.assertEqual(tuple(getattr(found, field) for field, _ in found._fields_), answer)
+        self.assertEqual(zlib.crc32(image), image_sum)
+        if buffer_sum is not None:
+            self.assertEqual(zlib.crc32(arguments[-1]), buffer_sum)
