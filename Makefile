@@ -3,7 +3,7 @@
 # under build/ (and target/, which is rt's own).
 
 # The groups of calls that the library exports besides the conversions: reading, then changing.
-FEATURES ?=
+FEATURES ?= reading
 # How long `make fuzz` runs.
 SECONDS ?= 60
 
@@ -11,10 +11,11 @@ export FEATURES
 export CARGO_TARGET_DIR := $(CURDIR)/build/host
 export PERQ_LIB_DIR := $(CURDIR)/build
 
-.PHONY: help setup library tool run test bench fuzz clean
+.PHONY: help setup library tool run python test bench fuzz clean
 
 help:
-	@echo 'make run      build the library and the tool, and run it on the worked examples'
+	@echo 'make run      build the library and the tool, and walk through what it does'
+	@echo 'make python   the shared object for host/python/tapermoss.py'
 	@echo 'make test     every check: formatting, proofs, the host tests, the worked cases'
 	@echo 'make bench    the library against the reference, as a table of ratios'
 	@echo 'make fuzz SECONDS=60   every call on random and damaged images, between pages that trap'
@@ -36,8 +37,19 @@ build/libperq.a: crates.txt $(shell find crates 2>/dev/null)
 tool: library
 	@cd host && cargo build --offline --quiet --release -p tapermoss --no-default-features --features "$(FEATURES)"
 
+# The walk-through needs all calls; without them there are the worked examples.
 run: tool
+ifneq ($(findstring changing,$(FEATURES)),)
+	@tools/walk build/host/release/tapermoss build/walk
+else
 	@build/host/release/tapermoss tour
+endif
+
+# The shared object that host/python/tapermoss.py loads.
+python: library build/libperq.so
+
+build/libperq.so: build/libperq.a tools/shared
+	@tools/shared $< $@
 
 test: setup
 	@tools/gate

@@ -73,11 +73,11 @@ fn the_limit_counts_the_stores_of_all_blocks_of_a_write() {
     };
     let mut expected = changed(|image| reference::write(image, FLOPPY, 6, 8, 0, &[5; 512], ALL));
     let told = write("4", "four");
-    assert!(told.starts_with("file 8, 1 block written: 4 stores, as many as the limit allows\n"));
+    assert!(told.starts_with("file 8, as far as block 0: 4 stores, as many as the limit allows\n"));
     assert!(folder.read("four") == expected);
     reference::write(&mut expected, FLOPPY, 6, 8, 1, &[5; 512], 2);
     let told = write("6", "six");
-    assert!(told.starts_with("file 8, 2 blocks written: 6 stores, as many as the limit allows\n"));
+    assert!(told.starts_with("file 8, as far as block 1: 6 stores, as many as the limit allows\n"));
     assert!(folder.read("six") == expected);
     write("0", "none");
     assert!(folder.read("none") == sample());

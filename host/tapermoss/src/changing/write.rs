@@ -38,7 +38,12 @@ pub fn run(arguments: &Arguments) -> Result<(), Problem> {
     let FileArguments { ref change, file } = arguments.file;
     change.carry_out(".new", |image| {
         let (blocks, made) = write(image, file, arguments.block, &bytes)?;
-        Ok(format!("file {file}, {} written: {}", counted(blocks, "block"), image.stores(made)))
+        let stores = image.stores(made);
+        let blocks = match image.left {
+            0 => format!("as far as block {}", arguments.block + blocks - 1),
+            _ => format!("{} written", counted(blocks, "block")),
+        };
+        Ok(format!("file {file}, {blocks}: {stores}"))
     })
 }
 
