@@ -1,11 +1,11 @@
 -- Every number that a call answers fits 32 bits: blocks, offsets and counts of a good partition are small.
-use mathlib.Core.Path.{_≡_, refl, sym, ap, _∙_, subst}
+use mathlib.Core.Path.{_≡_, refl, sym, ap, ap₂, _∙_, subst}
 use mathlib.Core.Bool.{Bool, true, false, not}
 use mathlib.Core.List.{List, [], _∷_}
 use Prim.Native.Nat.{ℕ, zero, suc, _+_, _-_, _*_, _/_, _<_, _≤_}
 use native.Mathlib.Omega.{arith}
 use lib.Dec.{leb, ltb, eqb}
-use lib.ListN.{length}
+use lib.ListN.{length, take}
 use borrow.Author.Tests.{ltb-true, leb-true, leb-false}
 use Rattle.base.specs.Tests.{pick, both, all, count}
 use Rattle.base.specs.Laws.{both-left, both-right}
@@ -19,7 +19,7 @@ use Rattle.volume.specs.Files.{Partition, partitionOf, inside, candidate, wellF
 use Rattle.volume.specs.Owned.{wf-of, nth-data, data-in, member}
 use Rattle.volume.specs.Reads.{Lies, lies, inside-of, candidate-in}
 use Rattle.volume.specs.Answers.{imageGood, partGood, endOf, partition, inPartition, lowest, lowestMalformed, fileAbove, foundFile, nextFile, tallied, checkClean, checkIn, checked, ofFile, showIn, shown, eitherOf, shownPair, readFrom, plain, describedAs, extractIn, extracted}
-use Rattle.volume.specs.Calls.{Planned, refuse, finish, unmarred, through, createIn, appendIn, writeIn, describeIn, destroyIn, repairIn, planned, Call, create, write, describe, destroy, repair}
+use Rattle.volume.specs.Calls.{Planned, refuse, finish, unmarred, through, createIn, appendIn, writeIn, describeIn, destroyIn, repairIn, planned, Answered, Call, create, write, describe, destroy, repair}
 use Rattle.volume.specs.Calls as calls
 use Rattle.volume.specs.Plans.{createPlan, grows}
 use Rattle.volume.specs.declared.Found.{Found}
@@ -29,6 +29,9 @@ use Rattle.volume.specs.declared.Part.the-variants as part
 use Rattle.volume.specs.declared.Outcome.{Outcome}
 use Rattle.volume.specs.declared.Outcome.the-variants.{Done, Absent, Refused}
 use Rattle.volume.specs.declared.PairAnswer.{PairAnswer}
+use Rattle.volume.specs.declared.Answer.{Answer}
+use Rattle.perq.specs.Flat.{flat, Changed}
+use Rattle.perq.specs.declared.PerqAnswer.{PerqAnswer}
 use Rattle.frame.specs.Sound.{free-in, head-free}
 
 -- each number of an answer fits
@@ -255,3 +258,18 @@ planned-fits d l s (destroy f) = through-fits d l s true (λ π. destroyIn π (v
 planned-fits d l s repair =
     planned-part d l s (λ e. unmarred (lowestMalformed (partitionOf d s e) (view l)) (repairIn (partitionOf d s e) (view l)))
     (λ e g. let i = lies d l s e g in planned-clean (partitionOf d s e) (view l) (repairIn (partitionOf d s e) (view l)) (i .few) (omega (arith, i .order)) (repair-fits d l s e))
+
+-- a changing call answered as its plan says: its numbers fit, and flattened it is what `Changed` asks for
+take-most : {A : Type 0} (n : ℕ) (l : List A) → length (take n l) ≤ n
+take-most zero l = omega arith
+take-most (suc n) [] = omega arith
+take-most (suc n) (x ∷ l) = let h = take-most n l in omega arith
+
+pub made-fits : {limit : ℕ} {p : Planned} {l l′ : List ℕ} {a : Answer} → limit < 4294967296 → Answered limit p l l′ a → a .made < 4294967296
+made-fits {limit} {p} h x = omega (arith, x .made, take-most limit (p .list))
+
+pub answered-fits : (d : ℕ) (l : List ℕ) (s : ℕ) (c : Call) {limit : ℕ} {l′ : List ℕ} {a : Answer} → Answered limit (planned d l s c) l l′ a → OutcomeFits (a .outcome)
+answered-fits d l s c x = subst OutcomeFits (sym (x .outcome)) (planned-fits d l s c)
+
+pub changed : {limit : ℕ} {p : Planned} {l l′ : List ℕ} {a : Answer} {r : PerqAnswer} → Answered limit p l l′ a → r ≡ flat (a .made) (a .outcome) → Changed limit p l l′ r
+changed x q = record { answers = q ∙ ap₂ flat (x .made) (x .outcome); image = x .image }

@@ -10,6 +10,7 @@ use base::Refusal;
 use drive::Converted;
 use volume::Outcome;
 
+mod changes; // changes.rt: the calls that change the image
 mod reads; // reads.rt: the calls that change nothing
 
 // An answer as seven numbers: see include/perq.h.

@@ -67,17 +67,25 @@ fn as_json(found: &Found) -> Value {
     })
 }
 
+/// A name, or a stroke for none.
+fn shown(name: &str) -> &str {
+    if name.is_empty() {
+        return "-";
+    }
+    name
+}
+
 fn as_text(found: &Found) -> String {
-    let Found { drive, blocks, ref device, .. } = *found;
+    let Found { drive, blocks, .. } = *found;
+    let device = shown(&found.device);
     let mut text =
         format!("drive   {} ({drive})\nblocks  {blocks}\ndevice  {device}\n\n", drive.number());
     text += " first   last  blocks  listed  name\n";
     for p in &found.partitions {
         let listed = if p.listed { "yes" } else { "no" };
         let size = p.last - p.s + 1;
-        let row = format!("{:>6} {:>6}  {size:>6}  {listed:<6}  {}", p.s, p.last, p.name);
-        text += row.trim_end();
-        text += "\n";
+        let (s, last, name) = (p.s, p.last, shown(&p.name));
+        text += &format!("{s:>6} {last:>6}  {size:>6}  {listed:<6}  {name}\n");
     }
     for block in &found.not_good {
         text += &format!("the table lists block {block}, at which no good partition starts\n");

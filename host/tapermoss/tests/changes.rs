@@ -244,13 +244,11 @@ fn a_refused_command_writes_nothing() {
 }
 
 #[test]
-fn every_refusal_of_the_changing_commands() {
+fn refusals_that_every_changing_command_has() {
     let folder = Folder::new();
     let image = folder.put("disk", &sample());
     let broken = folder.put("malformed", &malformed());
     let unsound = folder.put("unsound", &unsound());
-    let full = folder.put("full", &full());
-    let tight = folder.put("tight", &scattered(FLOPPY, 432, 6, 11, &[3], 7));
     let ragged = folder.put("ragged", &[0; 530]);
     let short = folder.put("short", &[0; 90]);
     let one = "refused (1): the image's 530 bytes are no whole number of 528-byte records";
@@ -258,7 +256,6 @@ fn every_refusal_of_the_changing_commands() {
     let four = "refused (4): block 7 is a malformed file block";
     let five = "refused (5): the partition at block 6 is not sound; repair mends it";
     let six = "refused (6): block 10 is no file of the partition at block 6";
-    let eight = "refused (8): the partition at block 6 has too few free blocks";
     let commands: [&[&str]; 4] = [
         &["create"],
         &["write", "--file", "10", "--from", &short],
@@ -277,6 +274,17 @@ fn every_refusal_of_the_changing_commands() {
     fails(&["repair", &ragged], one);
     fails(&["repair", &image, "--partition", "5"], two);
     fails(&["repair", &broken], four);
+    assert!(folder.names().iter().all(|name| !name.contains('.')), "{:?}", folder.names());
+}
+
+#[test]
+fn refusals_that_only_some_changing_commands_have() {
+    let folder = Folder::new();
+    let image = folder.put("disk", &sample());
+    let full = folder.put("full", &full());
+    let tight = folder.put("tight", &scattered(FLOPPY, 432, 6, 11, &[3], 7));
+    let short = folder.put("short", &[0; 90]);
+    let eight = "refused (8): the partition at block 6 has too few free blocks";
     fails(
         &["describe", &image, "--file", "10", "--bytes", &short],
         "refused (3): a description has 104 bytes, not 90",

@@ -57,7 +57,10 @@ fn every_good_partition_is_found_and_the_unlisted_ones_said() {
     let folder = Folder::new();
     let image = folder.put("disk", &two_partitions());
     let text = printed(&["partitions", &image]);
-    assert!(text.contains("     6    431     426  no\n   300    310      11  no\n"), "{text}");
+    assert!(
+        text.contains("     6    431     426  no      -\n   300    310      11  no      -\n"),
+        "{text}"
+    );
     let told = misused(&["check", &image]);
     assert_eq!(
         told,

@@ -1,0 +1,129 @@
+-- What an open gate gives the calls behind it: where the blocks lie that they read and store, and what answers them.
+use mathlib.Core.Path.{_≡_, refl, ap}
+use mathlib.Core.List.{List, _∷_, _++_}
+use mathlib.Core.Bool.{Bool, true, false}
+use Prim.Native.Nat.{ℕ, zero, suc, _+_, _-_, _≤_, _<_}
+use native.Mathlib.Omega.{arith}
+use lib.Dec.{eqb}
+use lib.ListN.{length}
+use lib.Seq.{take-nil}
+use borrow.Author.Tests.{le-leb, lt-leb}
+use Rattle.base.specs.Tests.{occ}
+use Rattle.base.specs.declared.Refusal.{Refusal}
+use Rattle.base.specs.declared.Refusal.the-variants.{NoCandidate, Full}
+use Rattle.drive.specs.Address.{pdaBlock}
+use Rattle.image.specs.View.{View, Rec, pair}
+use Rattle.image.specs.Image.{view}
+use Rattle.image.specs.Stores.{stored}
+use Rattle.image.specs.Saves.{Made}
+use Rattle.volume.specs.Words.{nextAt, numberFreeAt}
+use Rattle.volume.specs.Files.{Partition, partitionOf, candidate, len, ptrsFor, free, freeHead, chain, sound}
+use Rattle.volume.specs.Plans.{Plan, stores, nextBlock, freeTail, createPlan, describePlan}
+use Rattle.volume.specs.Calls.{Planned, refuse, finish, room, createIn, describeIn, Answered}
+use Rattle.volume.specs.Reads.{inside-of, candidate-in}
+use Rattle.volume.specs.declared.Answer.{Answer}
+use Rattle.frame.specs.Sound.{occ-here, occ-more, Starts, free-in, sound-clean, sound-number, free-starts, head-free, tail-free}
+use Rattle.inspect.specs.Parts.{Opened}
+use Rattle.inspect.proofs.Laws.{wf-opened}
+use Rattle.records.specs.Records.{Block, created, described}
+use Rattle.change.specs.Gate.{Opens, refusal, completion}
+
+-- ---- answers
+
+-- a refusal stores nothing
+pub answered-not : {limit : ℕ} {p : Planned} {l : List ℕ} {a : Answer} (y : Refusal) → p ≡ refuse y → a ≡ refusal y → Answered limit p l l a
+unfolding stored
+answered-not y h q = rw (h, q) (record { outcome = refl; made = rw take-nil; image = rw take-nil })
+
+-- a call that is done made its plan's stores
+pub answered-done : {limit : ℕ} {p : Planned} {l l′ : List ℕ} {a n : ℕ} {x : Answer} (q : Plan) → p ≡ finish a q → Made limit (stores q) l l′ n → x ≡ completion a n
+    → Answered limit p l l′ x
+answered-done q h m e = rw (h, e) (record { outcome = refl; made = m .count; image = m .image })
+
+pub answered-as : {limit : ℕ} {p q : Planned} {l l′ : List ℕ} {a : Answer} → p ≡ q → Answered limit q l l′ a → Answered limit p l l′ a
+answered-as h x = rw h x
+
+-- ---- the free chain
+
+chain-few : (π : Partition) (v : View) (n b : ℕ) → length (chain π v n b) ≤ n
+unfolding chain
+chain-few π v zero b = omega arith
+chain-few π v (suc n) b = go (eqb (pair v b nextAt) 0) refl (chain-few π v n _)
+  where
+    go : (t : Bool) → eqb (pair v b nextAt) 0 ≡ t → length (chain π v n (pdaBlock (π .drive) (pair v b nextAt))) ≤ n → length (chain π v (suc n) b) ≤ suc n
+    go true q h = rw (chain, q) (omega arith)
+    go false q h = rw (chain, q) (omega arith)
+
+-- the blocks that a list begins with stand in it
+first-of : {x : ℕ} {xs l : List ℕ} → Starts (x ∷ xs) l → 0 < occ x l
+first-of {x} {xs} {l} r = omega (arith, ap (occ x) (r .is), occ-here x (xs ++ r .rest))
+
+second-of : {x y : ℕ} {xs l : List ℕ} → Starts (x ∷ y ∷ xs) l → 0 < occ y l
+second-of {x} {y} {xs} {l} r = omega (arith, ap (occ y) (r .is), occ-more y x (y ∷ (xs ++ r .rest)), occ-here y (xs ++ r .rest))
+
+third-of : {x y z : ℕ} {xs l : List ℕ} → Starts (x ∷ y ∷ z ∷ xs) l → 0 < occ z l
+third-of {x} {y} {z} {xs} {l} r =
+    omega (arith, ap (occ z) (r .is), occ-more z x (y ∷ z ∷ (xs ++ r .rest)), occ-more z y (z ∷ (xs ++ r .rest)), occ-here z (xs ++ r .rest))
+
+-- ---- behind the gate
+
+module _ {d : ℕ} {l : List ℕ} {s e : ℕ} (o : Opens d l s e) where
+  pub block-to : (b : ℕ) → b ≤ e → Block l b
+  block-to b h = record { within = omega (arith, o .lies .within); few = omega (arith, o .lies .few) }
+
+  pub block-pib : Block l s
+  block-pib = block-to s (omega (arith, o .lies .order))
+
+  pub block-fib : (f : ℕ) → candidate (partitionOf d s e) (view l) f ≡ true → Block l f
+  block-fib f c = block-to f (candidate-in (partitionOf d s e) (view l) f c .1)
+
+  pub block-free : (b : ℕ) → 0 < occ b (free (partitionOf d s e) (view l)) → Block l b
+  block-free b h = block-to b (inside-of (partitionOf d s e) b (free-in (partitionOf d s e) (view l) (o .sound) b h) .1)
+
+  pub room-is : pair (view l) s numberFreeAt ≡ room (partitionOf d s e) (view l)
+  room-is = sound-number (partitionOf d s e) (view l) (o .sound)
+
+  pub room-few : room (partitionOf d s e) (view l) < 69552
+  unfolding free
+  room-few = omega (arith, o .lies .few, chain-few (partitionOf d s e) (view l) (e - s) (freeHead (partitionOf d s e) (view l)))
+
+  pub block-head : Block l (freeHead (partitionOf d s e) (view l))
+  block-head = block-free _ (head-free (partitionOf d s e) (view l) (o .sound))
+
+  pub block-tail : Block l (freeTail (partitionOf d s e) (view l))
+  block-tail = block-free _ (tail-free (partitionOf d s e) (view l) (o .sound))
+
+  pub block-second : (a q : ℕ) → a ≡ freeHead (partitionOf d s e) (view l) → q ≡ nextBlock (partitionOf d s e) (view l) a
+      → 2 ≤ room (partitionOf d s e) (view l) → Block l q
+  block-second a q ha hq n = rw (hq, ha) (block-free _ (second-of (free-starts (partitionOf d s e) (view l) (o .sound) 2 n)))
+
+  pub block-third : (a q z : ℕ) → a ≡ freeHead (partitionOf d s e) (view l) → q ≡ nextBlock (partitionOf d s e) (view l) a → z ≡ nextBlock (partitionOf d s e) (view l) q
+      → 3 ≤ room (partitionOf d s e) (view l) → Block l z
+  block-third a q z ha hq hz n = rw (hz, hq, ha) (block-free _ (third-of (free-starts (partitionOf d s e) (view l) (o .sound) 3 n)))
+
+  -- the index of a file can be read
+  pub file-opened : (f k p : ℕ) → candidate (partitionOf d s e) (view l) f ≡ true → k ≡ len (partitionOf d s e) (view l) f → p ≡ ptrsFor k
+      → Opened (partitionOf d s e) l f p k
+  file-opened f k p c hk hp =
+      wf-opened f k p (o .lies) (candidate-in (partitionOf d s e) (view l) f c .1) hk hp (sound-clean (partitionOf d s e) (view l) (o .sound) f c)
+
+-- ---- describe and create
+
+module _ (π : Partition) (v : View) (f : ℕ) (dat : Rec) where
+  pub describe-nowhere : candidate π v f ≡ false → describeIn π v f dat ≡ refuse NoCandidate
+  unfolding describeIn
+  describe-nowhere c = rw (describeIn, c)
+
+  pub describe-is : candidate π v f ≡ true → describeIn π v f dat ≡ finish 0 (described v f dat)
+  unfolding describeIn describePlan described
+  describe-is c = rw (describeIn, c)
+
+module _ (π : Partition) (v : View) (kind : ℕ) where
+  pub create-few : (m : ℕ) → m ≡ room π v → m ≤ 1 → createIn π v kind ≡ refuse Full
+  unfolding createIn
+  create-few m hm n = rw (createIn, le-leb (room π v) 1 (omega arith))
+
+  pub create-is : (m h g : ℕ) → m ≡ room π v → 1 < m → h ≡ freeHead π v → g ≡ nextBlock π v h
+      → createIn π v kind ≡ finish h (created (π .drive) v (π .s) h g kind)
+  unfolding createIn createPlan created
+  create-is m h g hm n hh hg = rw (hg, hh, createIn, lt-leb (room π v) 1 (omega arith))

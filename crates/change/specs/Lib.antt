@@ -1,0 +1,5 @@
+pub mod Gate
+pub mod Unique
+pub mod Full
+pub mod Hits
+pub mod Orders

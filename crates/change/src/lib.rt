@@ -1,0 +1,141 @@
+// The changing calls create and describe, and the gate that every changing call goes through. A call reads the unchanged image, plans
+// its records, and then makes its stores.
+ghost use mathlib.Core.Path.{_≡_};
+ghost use Prim.Native.Nat.{_<_};
+ghost use lib.ListN.{length};
+ghost use Rattle.image.specs.Image.{view};
+ghost use Rattle.image.specs.Saves.{words};
+ghost use Rattle.volume.specs.Files.{partitionOf};
+ghost use Rattle.volume.specs.Calls.{createIn, describeIn, Answered, planned, create, describe};
+ghost use Rattle.change.specs.Gate.{gate, Opens, refusal, completion};
+use base::Refusal;
+use volume::Answer;
+use volume::Found;
+use volume::Outcome;
+use volume::Part;
+
+pub mod free; // free.rt: the free chain
+
+// The answer of a call that is refused.
+pub fn refused(why: Refusal) -> Answer
+    ensures { λ a. ⌜ a ≡ refusal why ⌝ }
+{
+    Answer {
+        made: 0,
+        outcome: Outcome::Refused(why),
+    }
+}
+
+// The answer of a call that is done, with the value a, after n stores.
+pub fn done(a: usize, n: usize) -> Answer
+    ensures { λ x. ⌜ x ≡ completion a n ⌝ }
+{
+    Answer {
+        made: n,
+        outcome: Outcome::Done(a, 0, 0),
+    }
+}
+
+// Refusals 1 to 5, in that order: the end of the sound partition at s, or the first that applies. 3 is given where the call's buffer
+// does not fit.
+pub fn enter(img: &[u8], drive: usize, s: usize, fits: bool) -> Part
+    ensures { λ r. ⌜ r ≡ gate drive (now (img .entry)) s fits ⌝ }
+{
+    let q = inspect::partition(img, drive, s);
+    match q {
+        Part::Refused(why) => Part::Refused(why),
+        Part::Good(e) => {
+            if !fits {
+                return Part::Refused(Refusal::BadBuffer);
+            }
+            let x = inspect::lowest_malformed(img, drive, s, e);
+            match x {
+                Found::At(f) => Part::Refused(Refusal::Malformed(f)),
+                Found::Nothing => {
+                    if verify::is_sound(img, drive, s, e) {
+                        Part::Good(e)
+                    } else {
+                        Part::Refused(Refusal::Unsound)
+                    }
+                }
+            }
+        }
+    }
+}
+
+// Describe in a sound partition: 6.
+fn describe_open(
+    img: &mut [u8],
+    drive: usize,
+    s: usize,
+    e: usize,
+    f: usize,
+    text: &[u8],
+    limit: usize,
+) -> Answer
+    requires { ⌜ (Opens drive (now img) s e) × (length (now text) ≡ 104) ⌝ }
+    ensures { λ a. ⌜ Answered limit (describeIn (partitionOf drive s e) (view (now (img .entry))) f (words (now (text .entry)))) (now (img .entry)) (now (img .exit)) a ⌝ }
+{
+    if !inspect::candidate(img, drive, s, e, f) {
+        return refused(Refusal::NoCandidate);
+    }
+    done(0, records::describe_store(img, f, text, limit))
+}
+
+// Create in a sound partition: 8.
+fn create_open(
+    img: &mut [u8],
+    drive: usize,
+    s: usize,
+    e: usize,
+    kind: usize,
+    limit: usize,
+) -> Answer
+    requires { ⌜ (Opens drive (now img) s e) × (kind < 65536) ⌝ }
+    ensures { λ a. ⌜ Answered limit (createIn (partitionOf drive s e) (view (now (img .entry))) kind) (now (img .entry)) (now (img .exit)) a ⌝ }
+{
+    if free::room(img, drive, s, e) <= 1 {
+        return refused(Refusal::Full);
+    }
+    let h = free::head(img, drive, s, e);
+    let g = free::next(img, drive, h);
+    let n = records::create_store(img, drive, s, h, g, kind, limit);
+    done(h, n)
+}
+
+// A kind as a number.
+fn wide(x: u16) -> usize
+    ensures { λ r. ⌜ (r ≡ x) × (r < 65536) ⌝ }
+{
+    x as usize
+}
+
+// Describe: the FIB f gets the 104 bytes of `text` as its description.
+pub fn describe(
+    img: &mut [u8],
+    drive: usize,
+    s: usize,
+    f: usize,
+    text: &[u8],
+    limit: usize,
+) -> Answer
+    ensures { λ a. ⌜ Answered limit (planned drive (now (img .entry)) s (describe f (now (text .entry)))) (now (img .entry)) (now (img .exit)) a ⌝ }
+{
+    let g = enter(img, drive, s, text.len() == 104);
+    match g {
+        Part::Good(e) => describe_open(img, drive, s, e, f, text, limit),
+        Part::Refused(why) => refused(why),
+    }
+}
+
+// Create: the first free block becomes an empty file of that kind, and is the answer's value.
+pub fn create(img: &mut [u8], drive: usize, s: usize, kind: u16, limit: usize) -> Answer
+    ensures { λ a. ⌜ Answered limit (planned drive (now (img .entry)) s (create kind)) (now (img .entry)) (now (img .exit)) a ⌝ }
+{
+    let word = wide(kind);
+    let g = enter(img, drive, s, true);
+    match g {
+        Part::Good(e) => create_open(img, drive, s, e, word, limit),
+        Part::Refused(why) => refused(why),
+    }
+}

@@ -1,0 +1,48 @@
+use native.Mathlib.Omega.{arith}
+use denote.Ref.{now}
+use borrow.Author.Needs.{needs}
+use Rattle.repair.specs.Relink.{Filed, filed, file-in, ptrs-few}
+use Rattle.volume.specs.Files.{partitionOf}
+use Rattle.repair.proofs.blocks.relinked.Statement.{statement}
+use Rattle.repair.proofs.blocks.relinked.Tie as tie
+
+-- what the code has read of the block and its file
+read : (c : tie.After-place-in) → (let a = c .before .before .before .before .before .before .args in Filed (partitionOf (a .drive) (a .s) (a .e)) (now (a .img)) (a .b) (c .before .before .before .pda-block .result) (c .before .ptrs-for .result) (c .before .before .len .result) (c .place-in .result))
+read c = let h = c .before .before .before .before .before .before .pre in filed _ (h .0) (h .2) (c .before .before .before .before .pair .ensures .0) (c .before .before .before .pda-block .ensures .0) (c .before .before .len .ensures .0) (c .before .ptrs-for .ensures) _ (c .place-in .ensures .0)
+
+len-requires : tie.Need-len-requires
+len-requires c κs = omega (arith, file-in _ (c .before .before .before .pre .0) (c .before .before .before .pre .2) (c .before .pair .ensures .0) (c .pda-block .ensures .0), c .before .before .before .pre .0 .lies .within)
+
+place-in-requires : tie.Need-place-in-requires
+place-in-requires c κs = (omega arith, ptrs-few _ (c .before .before .before .before .before .pre .0) (c .before .before .before .before .before .pre .2) (c .before .before .before .pair .ensures .0) (c .before .before .pda-block .ensures .0) (c .before .len .ensures .0) (c .ptrs-for .ensures))
+
+next-of-requires : tie.Need-next-of-requires
+next-of-requires c κs = let h = read c in (h .opened, h .here)
+
+prev-of-requires : tie.Need-prev-of-requires
+prev-of-requires c κs = let h = read (c .before) in (h .opened, h .here)
+
+with-pair-requires : tie.Need-with-pair-requires
+with-pair-requires c κs = (omega arith, rw (c .before .prev-of .ensures) (read (c .before .before .before) .previous))
+
+with-pair-requires-2 : tie.Need-with-pair-requires-2
+with-pair-requires-2 c κs = (omega arith, rw (c .before .before .before .next-of .ensures) (read (c .before .before .before .before) .next))
+
+returns : tie.Need-returns
+returns c = rw (c .with-pair2 .ensures, c .before .with-pair .ensures, c .before .before .content .ensures, c .before .before .before .before .next-of .ensures, c .before .before .before .prev-of .ensures) (read (c .before .before .before .before .before) .is)
+
+pub relinked-spec : {M : Type 1} → statement M
+relinked-spec =
+    tie.close
+    (tie.spec
+    (λ c κs. search needs)
+    (λ c κs. search needs)
+    len-requires
+    (λ c κs. search needs)
+    place-in-requires
+    next-of-requires
+    prev-of-requires
+    (λ c κs. search needs)
+    with-pair-requires
+    with-pair-requires-2
+    returns)

@@ -1,0 +1,120 @@
+// The record that repair stores in each block, made of the image as it is: an unowned block's, an owned block's and the PIB's.
+ghost use mathlib.Core.Path.{_≡_};
+ghost use mathlib.Core.Bool.{true};
+ghost use Prim.Native.Nat.{_+_, _-_, _*_, _≤_, _<_};
+ghost use lib.ListN.{length};
+ghost use Rattle.drive.specs.Address.{lda};
+ghost use Rattle.image.specs.View.{put, put2};
+ghost use Rattle.image.specs.Image.{view, recOf};
+ghost use Rattle.volume.specs.Words.{serialAt, fillerAt, nextAt, previousAt, freeHeadAt, freeTailAt, numberFreeAt};
+ghost use Rattle.volume.specs.Files.{partitionOf, ptrsFor, owned};
+ghost use Rattle.volume.specs.Plans.{asFiller, trimmed, relinked};
+ghost use Rattle.repair.specs.Records.{linkTo, cleared, contentOf};
+ghost use Rattle.repair.specs.Mending.{Ready};
+
+// Words of a header, of a pointer block and of a PIB.
+const SERIAL: usize = 0;
+
+const FILLER: usize = 3;
+
+const NEXT: usize = 4;
+
+const PREVIOUS: usize = 6;
+
+const SLOTS: usize = 8;
+
+const FREE_HEAD: usize = 8;
+
+const FREE_TAIL: usize = 10;
+
+const NUMBER_FREE: usize = 12;
+
+// The physical address of block b, or nil for 0.
+fn link_to(drive: usize, b: usize) -> usize
+    requires { ⌜ b < 69552 ⌝ }
+    ensures { λ r. ⌜ (r ≡ linkTo drive b) × (r < 4294967296) ⌝ }
+{
+    if b == 0 { 0 } else { drive::pda(drive, b) }
+}
+
+// The record of an unowned block of the chain that begins at `first`: no serial, the filler of the first, and its neighbours.
+pub fn freed(
+    img: &[u8],
+    drive: usize,
+    b: usize,
+    first: usize,
+    above: usize,
+    below: usize,
+) -> [u8; 528]
+    requires { ⌜ (528 * b + 528 ≤ length (now img)) × (above < 69552) × (below < 69552) ⌝ }
+    ensures { λ r. ⌜ recOf r ≡ put2 serialAt 0 (put fillerAt (asFiller first) (put2 nextAt (linkTo drive above) (put2 previousAt (linkTo drive below) (view (now (img .entry)) b)))) ⌝ }
+{
+    let x = image::record(img, b);
+    let x = image::with_pair(x, PREVIOUS, link_to(drive, below));
+    let x = image::with_pair(x, NEXT, link_to(drive, above));
+    let x = image::with_word(x, FILLER, first % 65536);
+    image::with_pair(x, SERIAL, 0)
+}
+
+// The PIB's record for n free blocks from `first` to `last`.
+pub fn pib(img: &[u8], drive: usize, s: usize, first: usize, last: usize, n: usize) -> [u8; 528]
+    requires { ⌜ (528 * s + 528 ≤ length (now img)) × (first < 69552) × (last < 69552) × (n < 69552) ⌝ }
+    ensures { λ r. ⌜ recOf r ≡ put2 freeHeadAt (lda drive first) (put2 freeTailAt (lda drive last) (put2 numberFreeAt n (view (now (img .entry)) s))) ⌝ }
+{
+    let x = image::record(img, s);
+    let x = image::with_pair(x, NUMBER_FREE, n);
+    let x = image::with_pair(x, FREE_TAIL, drive::lda(drive, last));
+    image::with_pair(x, FREE_HEAD, drive::lda(drive, first))
+}
+
+// A record whose words from w on are nil.
+fn cleared(r: [u8; 528], w: usize) -> [u8; 528]
+    requires { ⌜ w ≤ 264 ⌝ }
+    ensures { λ x. ⌜ recOf x ≡ cleared w (recOf r) ⌝ }
+{
+    let mut x = r;
+    for i in 2 * w..528 {
+        x[i] = 0;
+    }
+    x
+}
+
+// The last of p pointer blocks of a file with k blocks, the entries past the last nil.
+fn trimmed(r: [u8; 528], p: usize, k: usize) -> [u8; 528]
+    requires { ⌜ (p ≡ ptrsFor k) × (1 ≤ p) × (k < 65536) ⌝ }
+    ensures { λ x. ⌜ recOf x ≡ trimmed k (recOf r) ⌝ }
+{
+    let used = k - (64 + 128 * (p - 1));
+    cleared(r, SLOTS + 2 * used)
+}
+
+// Block b as place i of its file, with p pointer blocks and k blocks: the file's last pointer block has its unused entries nil.
+fn content(img: &[u8], b: usize, i: usize, p: usize, k: usize) -> [u8; 528]
+    requires { ⌜ (528 * b + 528 ≤ length (now img)) × (p ≡ ptrsFor k) × (k < 65536) ⌝ }
+    ensures { λ r. ⌜ recOf r ≡ contentOf i p k (view (now (img .entry)) b) ⌝ }
+{
+    let x = image::record(img, b);
+    if 0 < i {
+        return x;
+    }
+    if p < 1 {
+        return x;
+    }
+    trimmed(x, p, k)
+}
+
+// The record of an owned block, with the links of its place in its file.
+pub fn relinked(img: &[u8], drive: usize, s: usize, e: usize, b: usize) -> [u8; 528]
+    requires { ⌜ (Ready (partitionOf drive s e) (now img)) × (b ≤ e) × (owned (partitionOf drive s e) (view (now img)) b ≡ true) ⌝ }
+    ensures { λ r. ⌜ recOf r ≡ relinked (partitionOf drive s e) (view (now (img .entry))) b ⌝ }
+{
+    let f = drive::pda_block(drive, image::pair(img, b, SERIAL));
+    let k = inspect::len(img, drive, s, e, f);
+    let p = inspect::ptrs_for(k);
+    let i = links::place_in(img, b, p);
+    let next = links::next_of(img, drive, s, e, f, p, k, i);
+    let previous = links::prev_of(img, drive, s, e, f, p, k, i);
+    let x = content(img, b, i, p, k);
+    let x = image::with_pair(x, PREVIOUS, previous);
+    image::with_pair(x, NEXT, next)
+}
