@@ -3,7 +3,7 @@
 # under build/ (and target/, which is rt's own).
 
 # The groups of calls that the library exports besides the conversions: reading, then changing.
-FEATURES ?= reading
+FEATURES ?= reading changing
 # How long `make fuzz` runs.
 SECONDS ?= 60
 

@@ -36,7 +36,7 @@ module _ (π : Partition) (v : View) where
       more = omega arith
 
       go : (t : Bool) → inside π (freeHead π v) ≡ t
-          → Verdict π v 0 0 (chain π v (suc (π.e - π.s - 1)) (freeHead π v)) (pick (inside π (freeHead π v)) (walk π v (suc (π.e - π.s - 1)) 0 (freeHead π v) 0) Wrong)
+          → Verdict π v 0 0 (chain π v (suc (π.e - π.s - 1)) (freeHead π v)) (pick (inside π (freeHead π v)) (walk π v (suc (π.e - π.s - 1)) 0 (freeHead π v) 0) (Wrong π.s))
       go true i = rw i (walk-says π v (π.e - π.s - 1) 0 (freeHead π v) 0 i)
       go false i = rw i (wrong (λ g. true≢false (sym (chain-head (π.e - π.s - 1) (freeHead π v) g) ∙ i)))
 
@@ -65,7 +65,7 @@ module _ (π : Partition) (v : View) where
       go true p false q = every-no _ 1 q
       go true p true q = absurd (h (there-many π v c q p))
 
-  by-wrong : {l : List ℕ} {w : Walk} → Verdict π v 0 0 l w → w ≡ Wrong → Fine π v 0 l → ⊥
+  by-wrong : {l : List ℕ} {w : Walk} {x : ℕ} → Verdict π v 0 0 l w → w ≡ Wrong x → Fine π v 0 l → ⊥
   by-wrong (fine g m z) q f = let z : _≡_ {A = ℕ} 0 1 = cc in omega arith
   by-wrong (wrong h) q f = h f
 
@@ -79,7 +79,7 @@ module _ (π : Partition) (v : View) where
   by-free n last (wrong g) h = let z : _≡_ {A = ℕ} 0 1 = cc in absurd (omega arith)
 
   module _ (h : π.s < π.e) {r : Walk} (q : r ≡ walked π v) where
-    pub free-wrong : r ≡ Wrong → false ≡ freeSound π v
+    pub free-wrong : {x : ℕ} → r ≡ Wrong x → false ≡ freeSound π v
     free-wrong t = sym (tests-no (by-wrong (walked-says h) (sym q ∙ t)))
 
     pub free-counts : (n last : ℕ) → r ≡ Free n last → Counts (free π v) n last

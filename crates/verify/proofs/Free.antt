@@ -55,11 +55,11 @@ step-on-in π v before b c h = go (owned π v b) refl (eqb (pair v b 6) (orNil �
         omega (arith, inside-of π (pdaBlock π.drive x) i .1)
 
 module _ {π : Partition} {v : View} {m before b n : ℕ} {w : Walk} (g : Walking π v m before b n w) where
-  pub walk-out : m ≤ n → Wrong ≡ w
+  pub walk-out : m ≤ n → Wrong b ≡ w
   unfolding walk
   walk-out l = rw (none l, walk) at (g .left)
 
-  pub walk-bad : {r : Step} → n < m → r ≡ stepAt π v before b → r ≡ Bad → Wrong ≡ w
+  pub walk-bad : {r : Step} → n < m → r ≡ stepAt π v before b → r ≡ Bad → Wrong b ≡ w
   unfolding walk
   walk-bad l q t = rw (more l, ← q, t, walk) at (g .left)
 
@@ -86,7 +86,7 @@ module _ (π : Partition) (v : View) where
 
   pub data Verdict (before n : ℕ) (l : List ℕ) : Walk → Type 0 where
     fine : {m z : ℕ} → Fine before l → m ≡ n + length l → z ≡ lastOf 0 l → Verdict before n l (Free m z)
-    wrong : (Fine before l → ⊥) → Verdict before n l Wrong
+    wrong : {x : ℕ} → (Fine before l → ⊥) → Verdict before n l (Wrong x)
 
   not-yes : (t : Bool) → t ≡ false → not t ≡ true
   not-yes t h = rw h

@@ -22,13 +22,13 @@ module _ (π : Partition) (v : View) where
   unfoldable pub stepAt : ℕ → ℕ → Step
   stepAt before b = pick (owned π v b) Bad (pick (eqb (pair v b previousAt) (orNil π before)) (onward π (pair v b nextAt)) Bad)
 
-  -- at most k blocks from b on, with n passed: how many there are, and the last
+  -- at most k blocks from b on, with n passed: the block with the first wrong link, or how many blocks there are and the last
   unfoldable pub walk : ℕ → ℕ → ℕ → ℕ → Walk
-  walk zero before b n = Wrong
-  walk (suc k) before b n = elim (stepAt before b) [ Bad ↦ Wrong | End ↦ Free (n + 1) b | On c ↦ walk k b c (n + 1) ]
+  walk zero before b n = Wrong b
+  walk (suc k) before b n = elim (stepAt before b) [ Bad ↦ Wrong b | End ↦ Free (n + 1) b | On c ↦ walk k b c (n + 1) ]
 
   unfoldable pub walked : Walk
-  walked = pick (inside π (freeHead π v)) (walk (π.e - π.s) 0 (freeHead π v) 0) Wrong
+  walked = pick (inside π (freeHead π v)) (walk (π.e - π.s) 0 (freeHead π v) 0) (Wrong π.s)
 
   -- FreeHead is an LDA, FreeTail that of the last block, and NumberFree is n
   unfoldable pub named : ℕ → ℕ → Bool

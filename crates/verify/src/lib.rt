@@ -31,9 +31,9 @@ pub enum Step {
     On(usize),
 }
 
-// What a walk of the free chain finds: a wrong link, or how many blocks and the last of them.
+// What a walk of the free chain finds: the block with the first wrong link, or how many blocks and the last.
 pub enum Walk {
-    Wrong,
+    Wrong(usize),
     Free(usize, usize),
 }
 
@@ -82,7 +82,7 @@ fn step_at(img: &[u8], drive: usize, s: usize, e: usize, before: usize, b: usize
     }
 }
 
-// The chain from `head` on: left at the first wrong link, or at its end with the count.
+// The chain from `head` on: left with the block of the first wrong link, or at its end with the count.
 fn walk_from(img: &[u8], drive: usize, s: usize, e: usize, head: usize) -> Walk
     requires { ⌜ (Lies drive (now img) s e) × (head ≤ e) × (Unmarred (partitionOf drive s e) (view (now img))) ⌝ }
     ensures { λ r. ⌜ r ≡ walk (partitionOf drive s e) (view (now (img .entry))) (e - s) 0 head 0 ⌝ }
@@ -93,12 +93,12 @@ fn walk_from(img: &[u8], drive: usize, s: usize, e: usize, head: usize) -> Walk
     let mut n: usize = 0;
     loop {
         if n >= most {
-            break Walk::Wrong;
+            break Walk::Wrong(b);
         }
         let x = step_at(img, drive, s, e, before, b);
         match x {
             Step::Bad => {
-                break Walk::Wrong;
+                break Walk::Wrong(b);
             }
             Step::End => {
                 break Walk::Free(n + 1, b);
@@ -119,10 +119,10 @@ fn walked(img: &[u8], drive: usize, s: usize, e: usize) -> Walk
 {
     let head = drive::lda_block(drive, image::pair(img, s, FREE_HEAD));
     if head <= s {
-        return Walk::Wrong;
+        return Walk::Wrong(s);
     }
     if e < head {
-        return Walk::Wrong;
+        return Walk::Wrong(s);
     }
     walk_from(img, drive, s, e, head)
 }
@@ -197,7 +197,7 @@ fn free_good(img: &[u8], drive: usize, s: usize, e: usize) -> bool
 {
     let w = walked(img, drive, s, e);
     match w {
-        Walk::Wrong => false,
+        Walk::Wrong(_) => false,
         Walk::Free(n, last) => {
             if n != count_free(img, drive, s, e) {
                 return false;
