@@ -1,4 +1,4 @@
-// Code that reads: the partition, candidates and files, the next file, and show.
+// Code that reads: the partition, candidates, well formed files, and the next file.
 ghost use mathlib.Core.Path.{_≡_};
 ghost use Prim.Native.Nat.{_+_, _*_, _≤_, _<_};
 ghost use lib.Dec.{ltb};
@@ -16,7 +16,6 @@ use volume::Part;
 pub mod form; // form.rt: whether a file is well formed
 pub mod index; // index.rt: a file's index
 pub mod numbers; // numbers.rt: relative numbers
-pub mod shows; // shows.rt: show, and show of a pair
 
 pub use form::well_formed;
 pub use index::len;
@@ -24,11 +23,6 @@ pub use index::name;
 pub use index::nth;
 pub use index::ptrs_for;
 pub use numbers::place_of;
-pub use shows::show;
-pub use shows::show_answer;
-pub use shows::show_in;
-pub use shows::show_pair;
-pub use shows::show_pair_answer;
 
 // Words of a header and of a PIB, and the relative number of a FIB.
 const SERIAL: usize = 0;

@@ -36,7 +36,7 @@ pub extern "C" fn perq_show(image: &[u8], drive: u32, s: u32, f: u32, r: u32) ->
     let p = crate::wide(s);
     let g = crate::wide(f);
     let n = crate::wide(r);
-    crate::flat(0, inspect::shows::show_answer(image, d, p, g, n))
+    crate::flat(0, shows::show_answer(image, d, p, g, n))
 }
 
 // Where the bytes of block r stand in the repaired image, or where that refuses in the original.
@@ -55,7 +55,7 @@ pub extern "C" fn perq_show_pair(
     let p = crate::wide(s);
     let g = crate::wide(f);
     let n = crate::wide(r);
-    let x = inspect::shows::show_pair_answer(original, repaired, d, p, g, n);
+    let x = shows::show_pair_answer(original, repaired, d, p, g, n);
     let o = x.outcome;
     crate::flat_from(x.image, o)
 }

@@ -12,7 +12,6 @@ ghost use Rattle.reading.specs.Into.{extractedInto};
 use base::Refusal;
 use inspect::form;
 use inspect::index;
-use inspect::shows;
 use volume::Outcome;
 use volume::Part;
 

@@ -9,10 +9,8 @@ use lib.ListN.{getD}
 use borrow.Author.Tests.{ltb-true, eqb-true}
 use Rattle.base.specs.Tests.{pick, both, above, below}
 use Rattle.base.specs.Laws.{both-left, both-right}
-use Rattle.drive.specs.Code.{placeNumber, encode}
-use Rattle.drive.specs.Rows.{pdaCode, ldaCode}
 use Rattle.drive.specs.Address.{pda, lda}
-use Rattle.drive.specs.Laws.{on-row, each-row}
+use Rattle.drive.specs.Fits.{pda-small, lda-small}
 use Rattle.image.specs.View.{View, Rec, put, put2}
 use Rattle.image.specs.Image.{view, Bytes}
 use Rattle.image.specs.Stores.{Fits}
@@ -25,15 +23,7 @@ use Rattle.frame.specs.Chain.{above-those, below-those}
 use Rattle.frame.specs.Repair.{repaired-mine, repaired-free}
 use Rattle.repair.specs.Standing.{last-under, head-under}
 
--- addresses are pairs of words
-pub pda-small : (d b : ℕ) → b < 69552 → pda d b < 4294967296
-unfolding pda placeNumber
-pda-small d b h = rw (on-row (λ g. encode (pdaCode g) b) d) (each-row (λ g. encode (pdaCode g) b < 4294967296) d (omega arith) (omega arith) (omega arith) (omega arith))
-
-pub lda-small : (d b : ℕ) → b < 69552 → lda d b < 4294967296
-unfolding lda placeNumber
-lda-small d b h = rw (on-row (λ g. encode (ldaCode g) b) d) (each-row (λ g. encode (ldaCode g) b < 4294967296) d (omega arith) (omega arith) (omega arith) (omega arith))
-
+-- an address or nil
 pick-small : (t : Bool) (x y n : ℕ) → x < n → y < n → pick t x y < n
 pick-small true x y n h k = h
 pick-small false x y n h k = k

@@ -2,7 +2,7 @@ use mathlib.Core.Path.{sym, _∙_}
 use native.Mathlib.Omega.{arith}
 use borrow.Author.Needs.{needs}
 use borrow.Author.Tests.{eq-eqb, ne-eqb}
-use Rattle.repair.specs.Fits.{pda-small}
+use Rattle.drive.specs.Fits.{pda-small}
 use Rattle.repair.proofs.blocks.link_to.Statement.{statement}
 use Rattle.repair.proofs.blocks.link_to.Tie as tie
 

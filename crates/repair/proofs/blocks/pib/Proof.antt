@@ -1,6 +1,6 @@
 use native.Mathlib.Omega.{arith}
 use borrow.Author.Needs.{needs}
-use Rattle.repair.specs.Fits.{lda-small}
+use Rattle.drive.specs.Fits.{lda-small}
 use Rattle.repair.proofs.blocks.pib.Statement.{statement}
 use Rattle.repair.proofs.blocks.pib.Tie as tie
 

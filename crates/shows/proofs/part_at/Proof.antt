@@ -1,7 +1,7 @@
 use Rattle.inspect.proofs.Laws.{length-512}
 use borrow.Author.Needs.{needs}
-use Rattle.inspect.proofs.shows.part_at.Statement.{statement}
-use Rattle.inspect.proofs.shows.part_at.Tie as tie
+use Rattle.shows.proofs.part_at.Statement.{statement}
+use Rattle.shows.proofs.part_at.Tie as tie
 
 returns : tie.Need-returns
 returns c = rw length-512

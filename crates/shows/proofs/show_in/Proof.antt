@@ -4,10 +4,10 @@ use borrow.Author.Tests.{lt-ltb, le-ltb, not-true, not-false}
 use Rattle.volume.specs.Files.{candidate, len, name}
 use Rattle.volume.specs.Answers.{showIn}
 use Rattle.volume.specs.Reads.{candidate-in}
 use Rattle.inspect.proofs.Laws.{wf-opened}
 use borrow.Author.Needs.{needs}
-use Rattle.inspect.proofs.shows.show_in.Statement.{statement}
-use Rattle.inspect.proofs.shows.show_in.Tie as tie
+use Rattle.shows.proofs.show_in.Statement.{statement}
+use Rattle.shows.proofs.show_in.Tie as tie
 
 returns : tie.Need-returns
 unfolding showIn

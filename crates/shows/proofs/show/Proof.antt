@@ -1,8 +1,8 @@
 use mathlib.Core.Path.{sym, _∙_}
 use Rattle.inspect.proofs.Laws.{shown-in}
 use borrow.Author.Needs.{needs}
-use Rattle.inspect.proofs.shows.show.Statement.{statement}
-use Rattle.inspect.proofs.shows.show.Tie as tie
+use Rattle.shows.proofs.show.Statement.{statement}
+use Rattle.shows.proofs.show.Tie as tie
 
 part-at-requires : tie.Need-part-at-requires
 part-at-requires c κs = shown-in _ _ _ _ _ _ _ _ (sym (c .before .before .before .show-answer .ensures) ∙ c .before .x .given .1)

@@ -1,8 +1,8 @@
 use mathlib.Core.Path.{sym, _∙_}
 use Rattle.volume.specs.Answers.{shownPair}
 use borrow.Author.Needs.{needs}
-use Rattle.inspect.proofs.shows.show_pair_answer.Statement.{statement}
-use Rattle.inspect.proofs.shows.show_pair_answer.Tie as tie
+use Rattle.shows.proofs.show_pair_answer.Statement.{statement}
+use Rattle.shows.proofs.show_pair_answer.Tie as tie
 
 enum-told : tie.Need-enum-told
 enum-told c = search needs

@@ -2,8 +2,8 @@ use mathlib.Core.Path.{sym, _∙_}
 use Rattle.volume.specs.Answers.{partition, shown}
 use Rattle.volume.specs.Reads.{lies}
 use borrow.Author.Needs.{needs}
-use Rattle.inspect.proofs.shows.show_answer.Statement.{statement}
-use Rattle.inspect.proofs.shows.show_answer.Tie as tie
+use Rattle.shows.proofs.show_answer.Statement.{statement}
+use Rattle.shows.proofs.show_answer.Tie as tie
 
 show-in-requires : tie.Need-show-in-requires
 show-in-requires c κs = lies _ _ _ _ (sym (c .before .before .before .partition .ensures) ∙ c .before .p .given .1)

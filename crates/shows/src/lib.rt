@@ -7,9 +7,9 @@ ghost use Rattle.image.specs.Image.{view};
 ghost use Rattle.volume.specs.Files.{partitionOf};
 ghost use Rattle.volume.specs.Answers.{showIn, shown, partOf, shownPair, partOfPair};
 ghost use Rattle.volume.specs.Reads.{Lies};
-use crate::form;
-use crate::index;
 use base::Refusal;
+use inspect::form;
+use inspect::index;
 use volume::Outcome;
 use volume::PairAnswer;
 use volume::Part;
@@ -19,7 +19,7 @@ pub fn show_in(img: &[u8], drive: usize, s: usize, e: usize, f: usize, r: usize)
     requires { ⌜ Lies drive (now img) s e ⌝ }
     ensures { λ a. ⌜ a ≡ showIn (partitionOf drive s e) (view (now (img .entry))) f r ⌝ }
 {
-    if !crate::candidate(img, drive, s, e, f) {
+    if !inspect::candidate(img, drive, s, e, f) {
         return Outcome::Refused(Refusal::NoCandidate);
     }
     if !form::well_formed(img, drive, s, e, f) {
@@ -41,7 +41,7 @@ pub fn show_in(img: &[u8], drive: usize, s: usize, e: usize, f: usize, r: usize)
 pub fn show_answer(img: &[u8], drive: usize, s: usize, f: usize, r: usize) -> Outcome
     ensures { λ a. ⌜ a ≡ shown drive (now (img .entry)) s f r ⌝ }
 {
-    let p = crate::partition(img, drive, s);
+    let p = inspect::partition(img, drive, s);
     match p {
         Part::Good(e) => show_in(img, drive, s, e, f, r),
         Part::Refused(why) => Outcome::Refused(why),

@@ -1,0 +1,33 @@
+-- `worked::cuts` is safe and ends. The loop makes six turns. Assumes nothing.
+use Prim.Native.Nat.{_≤_, _-_}
+use borrow.Author.Needs.{needs}
+use Rattle.worked.proofs.cuts.Statement.{statement}
+use Rattle.worked.proofs.cuts.Tie as tie
+
+abbrev Inv-loop : tie.InvT-loop
+Inv-loop img k₀ k = k ≤ 6
+
+abbrev μ-loop : tie.MeasureT-loop
+μ-loop img k₀ k = 6 - k
+
+loop-holds : tie.Need-loop-holds Inv-loop μ-loop
+loop-holds c = search needs
+
+cut-requires : tie.Need-cut-requires Inv-loop μ-loop
+cut-requires c κs = search needs
+
+add-k : tie.Need-add-k Inv-loop μ-loop
+add-k c = search needs
+
+loop-less : tie.Need-loop-less Inv-loop μ-loop
+loop-less c = search needs
+
+loop-again : tie.Need-loop-again Inv-loop μ-loop
+loop-again c = search needs
+
+returns : tie.Need-returns Inv-loop μ-loop
+returns c = search needs
+
+pub cuts-spec : {M : Type 1} → statement M
+cuts-spec =
+    tie.close (tie.spec Inv-loop μ-loop loop-holds cut-requires add-k loop-less loop-again returns)
