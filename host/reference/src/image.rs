@@ -44,7 +44,7 @@ impl<'a> Image<'a> {
             block: 0,
         })?;
         let records = bytes.len() / RECORD;
-        let whole = !bytes.is_empty() && bytes.len().is_multiple_of(RECORD);
+        let whole = !bytes.is_empty() && bytes.len() % RECORD == 0;
         Refusal::unless(whole && records <= drive.blocks() as usize, 1)?;
         Ok(Image {
             bytes,

@@ -104,7 +104,7 @@ impl Model {
             self.files.get_mut(&f).unwrap().data[r] = data.to_vec();
             return Ok(());
         }
-        let new_pointer = r >= 64 && (r - 64).is_multiple_of(128);
+        let new_pointer = r >= 64 && (r - 64) % 128 == 0;
         let taken = self.take(if new_pointer { 2 } else { 1 })?;
         let file = self.files.get_mut(&f).unwrap();
         file.data.push(data.to_vec());
