@@ -37,12 +37,12 @@ build/libperq.a: crates.txt $(shell find crates 2>/dev/null)
 tool: library
 	@cd host && cargo build --offline --quiet --release -p tapermoss --no-default-features --features "$(FEATURES)"
 
-# The walk-through needs all calls; without them there are the worked examples.
+# The worked examples as a table, and the walk-through, which needs all calls.
 run: tool
-ifneq ($(findstring changing,$(FEATURES)),)
-	@tools/walk build/host/release/tapermoss build/walk
-else
 	@build/host/release/tapermoss tour
+ifneq ($(findstring changing,$(FEATURES)),)
+	@echo
+	@tools/walk build/host/release/tapermoss build/walk
 endif
 
 # The shared object that host/python/tapermoss.py loads.
