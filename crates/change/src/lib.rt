@@ -48,16 +48,13 @@ pub fn enter(img: &[u8], drive: usize, s: usize, fits: bool) -> Part
             if !fits {
                 return Part::Refused(Refusal::BadBuffer);
             }
+            if verify::is_sound(img, drive, s, e) {
+                return Part::Good(e);
+            }
             let x = inspect::lowest_malformed(img, drive, s, e);
             match x {
                 Found::At(f) => Part::Refused(Refusal::Malformed(f)),
-                Found::Nothing => {
-                    if verify::is_sound(img, drive, s, e) {
-                        Part::Good(e)
-                    } else {
-                        Part::Refused(Refusal::Unsound)
-                    }
-                }
+                Found::Nothing => Part::Refused(Refusal::Unsound),
             }
         }
     }

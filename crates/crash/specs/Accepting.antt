@@ -30,7 +30,7 @@ use Rattle.volume.specs.declared.Part.{Part}
 use Rattle.volume.specs.declared.Part.the-variants as part
 use Rattle.volume.specs.declared.Outcome.{Outcome}
 use Rattle.volume.specs.declared.Outcome.the-variants.{Refused}
-use Rattle.crash.specs.Fitting.{words-of}
+use Rattle.frame.specs.Fitting.{words-of}
 use Rattle.crash.specs.Settled.{Settled, refused, create-settled, describe-settled, destroy-settled, write-settled, repair-settled}
 use Rattle.crash.specs.SameFile.{SameFiles}
 use Rattle.crash.specs.Effect.{Effect}

@@ -12,6 +12,7 @@ use Rattle.drive.specs.Address.{pda, pdaBlock, lda, ldaBlock}
 use Rattle.drive.specs.Laws.{pda-back, lda-back}
 use Rattle.image.specs.View.{upd-same, upd-other, View, Rec, Store, upd, pair, put, put2}
 use Rattle.image.specs.Saves.{withData}
+use Rattle.volume.specs.Words.{directAt, slotAt}
 use Rattle.volume.specs.Files.{Partition, ptrIndex, ptrSlot, inside, len, ptrsFor, ptrs, indirect, ptr, entry, name, names, nth, size, place, free, freeHead}
 use Rattle.volume.specs.Frame.{SameHead, names-same}
 use Rattle.volume.specs.Owned.{place-back, few-ptrs, nth-fib, nth-ptr, nth-data, ptr-in, fib-in, wf-of, of-wf, WF, names-own}
@@ -100,14 +101,14 @@ module _ {π : Partition} {v : View} {f : ℕ} {dat : Rec} (G : Growing π v f d
   pairs : (w : ℕ) {x y : ℕ} → D f w ≡ x → D f (w + 1) ≡ y → pair D f w ≡ x + 65536 * y
   pairs w h k = ap₂ (λ (x y : ℕ). x + 65536 * y) h k
 
-  D-direct : (i : ℕ) → i < 64 → i ≢ r → pair D f (60 + 2 * i) ≡ pair v f (60 + 2 * i)
+  D-direct : (i : ℕ) → i < 64 → i ≢ r → pair D f (directAt i) ≡ pair v f (directAt i)
   unfolding F
   D-direct i l n = pairs (60 + 2 * i) (one (60 + 2 * i) (omega arith) (omega arith) (λ z. n (omega arith)) (λ z. n (omega arith))) (one (60 + 2 * i + 1) (omega arith) (omega arith) (λ z. n (omega arith)) (λ z. n (omega arith)))
     where
       one : (w : ℕ) → 60 ≤ w → w < 188 → w ≢ 60 + 2 * r → w ≢ 60 + 2 * r + 1 → D f w ≡ v f w
       one w l m n n′ = D-f w ∙ grown-direct-same π.drive v f a q p r p′ top new (new-few G) w l m n n′
 
-  D-direct-new : r < 64 → pair D f (60 + 2 * r) ≡ lda π.drive a
+  D-direct-new : r < 64 → pair D f (directAt r) ≡ lda π.drive a
   unfolding F
   D-direct-new l =
       pairs (60 + 2 * r) (D-f _ ∙ grown-direct π.drive v f a q p r p′ top new (new-few G) (60 + 2 * r) (omega arith) (omega arith)) (D-f _ ∙ grown-direct π.drive v f a q p r p′ top new (new-few G) (60 + 2 * r + 1) (omega arith) (omega arith))
@@ -146,7 +147,7 @@ module _ {π : Partition} {v : View} {f : ℕ} {dat : Rec} (G : Growing π v f d
       w : ℕ
       w = 8 + 2 * ptrSlot i
 
-      slot : 64 ≤ i → pair D (ptr π D f (ptrIndex i)) (8 + 2 * ptrSlot i) ≡ pair v (ptr π v f (ptrIndex i)) (8 + 2 * ptrSlot i)
+      slot : 64 ≤ i → pair D (ptr π D f (ptrIndex i)) (slotAt (ptrSlot i)) ≡ pair v (ptr π v f (ptrIndex i)) (slotAt (ptrSlot i))
       slot m =
           let k = ptr-of π v f (G .cf) (wf₀ G) i l m in
           ap (λ (x : ℕ). pair D x w) (D-ptr (ptrIndex i) k)
@@ -186,7 +187,7 @@ module _ {π : Partition} {v : View} {f : ℕ} {dat : Rec} (G : Growing π v f d
       w : ℕ
       w = 8 + 2 * ptrSlot r
 
-      go : (t : Bool) → ltb r 64 ≡ t → pick t (pair D f (60 + 2 * r)) (pair D (ptr π D f (ptrIndex r)) (8 + 2 * ptrSlot r)) ≡ lda π.drive a
+      go : (t : Bool) → ltb r 64 ≡ t → pick t (pair D f (directAt r)) (pair D (ptr π D f (ptrIndex r)) (slotAt (ptrSlot r))) ≡ lda π.drive a
       go true h = D-direct-new (ltb-true r 64 h)
       go false h =
           let l = ltb-false r 64 h in

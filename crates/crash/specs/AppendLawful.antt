@@ -9,13 +9,14 @@ use Rattle.base.specs.Tests.{pick}
 use Rattle.drive.specs.Address.{lda}
 use Rattle.image.specs.View.{View, Rec}
 use Rattle.image.specs.Stores.{Fits}
+use Rattle.volume.specs.Words.{fillerAt}
 use Rattle.volume.specs.Files.{Partition, ptrSlot, inside, len, ptrsFor, ptrs, nth, size, freeHead}
 use Rattle.volume.specs.Owned.{member}
 use Rattle.volume.specs.Plans.{stores, datum, newPointer, slotted, grownFib, appended, grows, appendPlan}
 use Rattle.frame.specs.Soft.{cand-in}
 use Rattle.frame.specs.Turn.{Each, each-append}
 use Rattle.frame.specs.Sound.{after₁}
-use Rattle.crash.specs.Fitting.{put-fits, put2-fits, opt-fits, blank-fits, Words, data-fits}
+use Rattle.frame.specs.Fitting.{put-fits, put2-fits, opt-fits, blank-fits, Words, data-fits}
 use Rattle.crash.specs.Lawful.{Placed, Lawful, pda-fits, lda-fits, le-end, inner, first-lawful, less-lawful}
 use Rattle.crash.specs.AppendTakes.{Growing, wf₀, few, new-few, a-in, q-in, first, final, datumRec, pointerRec, slotRec, before, each-links, each-mid}
 use Rattle.crash.specs.AppendForm.{g-in}
@@ -64,12 +65,12 @@ module _ {π : Partition} {v : View} {f : ℕ} {dat : Rec} (G : Growing π v f d
     datum-fits : Fits (datumRec G)
     unfolding datum
     datum-fits = data-fits k (put2-fits 0 _ (omega arith) (pda-fits at f (le-end at f f-in)) (put-fits 2 r (omega arith) (omega (arith, G .room))
-        (put-fits 3 (v a 3) (omega arith) (at .fits a .small 3) (put2-fits 6 _ (omega arith) (pda-fits at old (le-end at old old-in)) blank-fits))))
+        (put-fits 3 (v a fillerAt) (omega arith) (at .fits a .small 3) (put2-fits 6 _ (omega arith) (pda-fits at old (le-end at old old-in)) blank-fits))))
 
     pointer-fits : Fits (pointerRec G)
     unfolding newPointer
     pointer-fits = put2-fits 0 _ (omega arith) (pda-fits at f (le-end at f f-in)) (put-fits 2 (65532 - p) (omega arith) (omega arith)
-        (put-fits 3 (v q 3) (omega arith) (at .fits q .small 3) (put2-fits 4 _ (omega arith) (pda-fits at top (le-end at top top-in))
+        (put-fits 3 (v q fillerAt) (omega arith) (at .fits q .small 3) (put2-fits 4 _ (omega arith) (pda-fits at top (le-end at top top-in))
         (put2-fits 8 _ (omega arith) (lda-fits at a (le-end at a (a-in G))) blank-fits))))
 
     slot-fits : Fits (slotRec G)

@@ -12,6 +12,7 @@ use Rattle.base.specs.Laws.{and-left, and-right, and-both}
 use Rattle.drive.specs.Address.{pda, lda}
 use Rattle.image.specs.View.{upd-same, View, Rec, after, upd, pair, put, put2, blank}
 use Rattle.image.specs.Saves.{withData}
+use Rattle.volume.specs.Words.{nextAt, previousAt, slotAt}
 use Rattle.volume.specs.Files.{Partition, ptrSlot, len, ptrsFor, ptrs, ptr, nth, size, nextOf, prevOf, freeHead}
 use Rattle.volume.specs.Owned.{nth-fib, fib-in}
 use Rattle.volume.specs.Plans.{st, put2If, datum, newPointer, slotted, pointerStores, lastStores, topStores, grows}
@@ -90,11 +91,11 @@ module _ {π : Partition} {v : View} {f : ℕ} {dat : Rec} (G : Growing π v f d
       P : ℕ → Rec → Type 0
       P x u = x ≡ nth π v f j → u w ≡ v (nth π v f j) w
 
-      on-last : old ≡ b → ((w < 6) × (j ≢ p + r)) ⊎ ((6 ≤ w) × (new ≡ true → j ≢ 0)) → put2 4 (pda π.drive a) (v old) w ≡ v b w
+      on-last : old ≡ b → ((w < 6) × (j ≢ p + r)) ⊎ ((6 ≤ w) × (new ≡ true → j ≢ 0)) → put2 nextAt (pda π.drive a) (v old) w ≡ v b w
       on-last z (inl y) = absurd (y .1 (sym (own-place (p + r) j (final G) i z)))
       on-last z (inr y) = put2-off 4 (pda π.drive a) (v old) w (λ z. omega (arith, y .0)) (λ z. omega (arith, y .0)) ∙ ap (λ (x : ℕ). v x w) z
 
-      on-top : new ≡ true → top ≡ b → ((w < 6) × (j ≢ p + r)) ⊎ ((6 ≤ w) × (new ≡ true → j ≢ 0)) → put2 6 (pda π.drive q) (v top) w ≡ v b w
+      on-top : new ≡ true → top ≡ b → ((w < 6) × (j ≢ p + r)) ⊎ ((6 ≤ w) × (new ≡ true → j ≢ 0)) → put2 previousAt (pda π.drive q) (v top) w ≡ v b w
       on-top h z (inl y) = put2-off 6 (pda π.drive q) (v top) w (λ z. omega (arith, y .0)) (λ z. omega (arith, y .0)) ∙ ap (λ (x : ℕ). v x w) z
       on-top h z (inr y) = absurd (y .1 h (sym (own-place 0 j (first G) i z)))
 
@@ -106,11 +107,11 @@ module _ {π : Partition} {v : View} {f : ℕ} {dat : Rec} (G : Growing π v f d
       go true h = let z = eqb-true (nth π v f j) f h in F-word j w l m (own-place j p i (fib-in π v f) (z ∙ sym (nth-fib π v f))) y ∙ ap (λ (x : ℕ). v x w) (sym z)
       go false h = M-word j w i l m y
 
-  next-stays : (j : ℕ) → j < size π v f → j ≢ p + r → pair (D G) (nth π v f j) 4 ≡ pair v (nth π v f j) 4
+  next-stays : (j : ℕ) → j < size π v f → j ≢ p + r → pair (D G) (nth π v f j) nextAt ≡ pair v (nth π v f j) nextAt
   unfolding Stays
   next-stays j i n = ap₂ (λ (x y : ℕ). x + 65536 * y) (D-word j 4 i (omega arith) (omega arith) (inl (omega arith, n))) (D-word j 5 i (omega arith) (omega arith) (inl (omega arith, n)))
 
-  prev-stays : (j : ℕ) → j < size π v f → (new ≡ true → j ≢ 0) → pair (D G) (nth π v f j) 6 ≡ pair v (nth π v f j) 6
+  prev-stays : (j : ℕ) → j < size π v f → (new ≡ true → j ≢ 0) → pair (D G) (nth π v f j) previousAt ≡ pair v (nth π v f j) previousAt
   unfolding Stays
   prev-stays j i n = ap₂ (λ (x y : ℕ). x + 65536 * y) (D-word j 6 i (omega arith) (omega arith) (inr (omega arith, n))) (D-word j 7 i (omega arith) (omega arith) (inr (omega arith, n)))
 
@@ -135,14 +136,14 @@ module _ {π : Partition} {v : View} {f : ℕ} {dat : Rec} (G : Growing π v f d
   M-last : 0 < r → M G old 4 + 65536 * (M G) old 5 ≡ pda π.drive a
   unfolding after lastStores topStores
   M-last h =
-      ap (λ (u : View). pair u old 4) (M-is ∙ ap (λ (t : Bool). after (tops G) (after (pick t [] (st old X ∷ [])) u₂)) (le-ltb r 1 h))
+      ap (λ (u : View). pair u old nextAt) (M-is ∙ ap (λ (t : Bool). after (tops G) (after (pick t [] (st old X ∷ [])) u₂)) (le-ltb r 1 h))
       ∙ after-each P (tops G) (upd u₂ old X)
-      (each-pick P new (pick (ltb p 1) [] (st top (put2 6 (pda π.drive q) (v top)) ∷ [])) []
-      (λ _. each-pick P (ltb p 1) [] (st top (put2 6 (pda π.drive q) (v top)) ∷ []) (λ _. tt) (λ n. ((λ z. absurd (omega (arith, own-place 0 (p + r) (first G) (final G) z))), tt))) (λ _. tt))
+      (each-pick P new (pick (ltb p 1) [] (st top (put2 previousAt (pda π.drive q) (v top)) ∷ [])) []
+      (λ _. each-pick P (ltb p 1) [] (st top (put2 previousAt (pda π.drive q) (v top)) ∷ []) (λ _. tt) (λ n. ((λ z. absurd (omega (arith, own-place 0 (p + r) (first G) (final G) z))), tt))) (λ _. tt))
       (λ x z. ap (λ (b : ℕ). upd u₂ old X b 4 + 65536 * upd u₂ old X b 5) z ∙ ap (λ (u : Rec). u 4 + 65536 * u 5) (upd-same u₂ old X) ∙ put2-on 4 (pda π.drive a) (v old)) old refl
     where
       X : Rec
-      X = put2 4 (pda π.drive a) (v old)
+      X = put2 nextAt (pda π.drive a) (v old)
 
       P : ℕ → Rec → Type 0
       P x u = x ≡ old → u 4 + 65536 * u 5 ≡ pda π.drive a
@@ -150,33 +151,33 @@ module _ {π : Partition} {v : View} {f : ℕ} {dat : Rec} (G : Growing π v f d
   M-top : new ≡ true → 0 < p → M G top 6 + 65536 * (M G) top 7 ≡ pda π.drive q
   unfolding after topStores
   M-top h k =
-      ap (λ (u : View). pair u top 6) (M-is ∙ ap₂ (λ (t x : Bool). after (pick t (pick x [] (st top X ∷ [])) []) (after (olds G) u₂)) h (le-ltb p 1 k))
+      ap (λ (u : View). pair u top previousAt) (M-is ∙ ap₂ (λ (t x : Bool). after (pick t (pick x [] (st top X ∷ [])) []) (after (olds G) u₂)) h (le-ltb p 1 k))
       ∙ ap (λ (u : Rec). u 6 + 65536 * u 7) (upd-same (after (olds G) u₂) top X) ∙ put2-on 6 (pda π.drive q) (v top)
     where
       X : Rec
-      X = put2 6 (pda π.drive q) (v top)
+      X = put2 previousAt (pda π.drive q) (v top)
 
   -- the old last block points to the new one
-  next-last : pair (D G) old 4 ≡ pda π.drive a
+  next-last : pair (D G) old nextAt ≡ pda π.drive a
   next-last = go (ltb r 1) refl
     where
-      go : (t : Bool) → ltb r 1 ≡ t → pair (D G) old 4 ≡ pda π.drive a
+      go : (t : Bool) → ltb r 1 ≡ t → pair (D G) old nextAt ≡ pda π.drive a
       go true h =
           let n : r ≡ 0 = (let m = ltb-true r 1 h in omega arith) in
-          ap (λ (x : ℕ). pair (D G) x 4) (ap (nth π v f) (let z : p + r ≡ p = omega arith in z) ∙ nth-fib π v f) ∙ ap₂ (λ (x z : ℕ). x + 65536 * z) (D-f G 4) (D-f G 5) ∙ F-next n
+          ap (λ (x : ℕ). pair (D G) x nextAt) (ap (nth π v f) (let z : p + r ≡ p = omega arith in z) ∙ nth-fib π v f) ∙ ap₂ (λ (x z : ℕ). x + 65536 * z) (D-f G 4) (D-f G 5) ∙ F-next n
       go false h =
           let n : 0 < r = ltb-false r 1 h in
           ap (λ (x : Rec). x 4 + 65536 * x 5) (D-else G old (λ z. absurd (omega (arith, own-place (p + r) p (final G) (fib-in π v f) (z ∙ sym (nth-fib π v f))))))
           ∙ M-last n
 
   -- the old first block points back to the new pointer block
-  prev-top : new ≡ true → pair (D G) top 6 ≡ pda π.drive q
+  prev-top : new ≡ true → pair (D G) top previousAt ≡ pda π.drive q
   prev-top h = go (ltb p 1) refl
     where
-      go : (t : Bool) → ltb p 1 ≡ t → pair (D G) top 6 ≡ pda π.drive q
+      go : (t : Bool) → ltb p 1 ≡ t → pair (D G) top previousAt ≡ pda π.drive q
       go true k =
           let n : p ≡ 0 = (let m = ltb-true p 1 k in omega arith) in
-          ap (λ (x : ℕ). pair (D G) x 6) (ap (nth π v f) (sym n) ∙ nth-fib π v f) ∙ ap₂ (λ (x z : ℕ). x + 65536 * z) (D-f G 6) (D-f G 7) ∙ F-prev h n
+          ap (λ (x : ℕ). pair (D G) x previousAt) (ap (nth π v f) (sym n) ∙ nth-fib π v f) ∙ ap₂ (λ (x z : ℕ). x + 65536 * z) (D-f G 6) (D-f G 7) ∙ F-prev h n
       go false k =
           let n : 0 < p = ltb-false p 1 k in
           ap (λ (x : Rec). x 6 + 65536 * x 7) (D-else G top (λ z. absurd (omega (arith, own-place 0 p (first G) (fib-in π v f) (z ∙ sym (nth-fib π v f)))))) ∙ M-top h n
@@ -224,20 +225,20 @@ module _ {π : Partition} {v : View} {f : ℕ} {dat : Rec} (G : Growing π v f d
   unfolding nextOf
   no-next i l = ap (λ (t : Bool). pick t (pda π.drive (nth π (D G) f (suc i))) 0) (le-ltb (suc i) (size π (D G) f) l)
 
-  D-next : (i : ℕ) → Where i → i < size π (D G) f → pair (D G) (nth π (D G) f i) 4 ≡ nextOf π (D G) f i
+  D-next : (i : ℕ) → Where i → i < size π (D G) f → pair (D G) (nth π (D G) f i) nextAt ≡ nextOf π (D G) f i
   unfolding newPointer datum withData put put2 blank
   D-next i (ahead h z) l =
-      ap (λ (x : ℕ). pair (D G) x 4) (ap (nth π (D G) f) z ∙ nth-new G h) ∙ ap (λ (x : Rec). x 4 + 65536 * x 5) (D-q G h) ∙ word (pda π.drive top)
+      ap (λ (x : ℕ). pair (D G) x nextAt) (ap (nth π (D G) f) z ∙ nth-new G h) ∙ ap (λ (x : Rec). x 4 + 65536 * x 5) (D-q G h) ∙ word (pda π.drive top)
       ∙ sym (next-is i top (omega (arith, D-size, v-size)) (ap (nth π (D G) f) (let w : suc i ≡ shift G + 0 = omega (arith, new-is G h .0) in w) ∙ nth-old G 0 (first G)))
-  D-next i (among j k z) l = ap (λ (x : ℕ). pair (D G) x 4) (ap (nth π (D G) f) z ∙ nth-old G j k) ∙ go (eqb j (p + r)) refl
+  D-next i (among j k z) l = ap (λ (x : ℕ). pair (D G) x nextAt) (ap (nth π (D G) f) z ∙ nth-old G j k) ∙ go (eqb j (p + r)) refl
     where
       on : suc i < size π (D G) f
       on = omega (arith, D-size)
 
-      go : (t : Bool) → eqb j (p + r) ≡ t → pair (D G) (nth π v f j) 4 ≡ nextOf π (D G) f i
+      go : (t : Bool) → eqb j (p + r) ≡ t → pair (D G) (nth π v f j) nextAt ≡ nextOf π (D G) f i
       go true y =
           let w = eqb-true j (p + r) y in
-          ap (λ (x : ℕ). pair (D G) (nth π v f x) 4) w ∙ next-last
+          ap (λ (x : ℕ). pair (D G) (nth π v f x) nextAt) w ∙ next-last
           ∙ sym (next-is i a on (ap (nth π (D G) f) (let u : suc i ≡ ptrs π (D G) f + suc r = omega (arith, D-ptrs G, shift-is G) in u) ∙ nth-end G))
       go false y =
           let w = eqb-false j (p + r) y in
@@ -245,7 +246,7 @@ module _ {π : Partition} {v : View} {f : ℕ} {dat : Rec} (G : Growing π v f d
           next-stays j k w ∙ lk .next j k ∙ v-next j m
           ∙ sym (next-is i (nth π v f (suc j)) on (ap (nth π (D G) f) (let u : suc i ≡ shift G + suc j = omega arith in u) ∙ nth-old G (suc j) m))
   D-next i (end z) l =
-      ap (λ (x : ℕ). pair (D G) x 4) (ap (nth π (D G) f) z ∙ nth-end G) ∙ ap (λ (x : Rec). x 4 + 65536 * x 5) (D-a G) ∙ sym (no-next i (omega (arith, D-size, v-size, D-ptrs G, shift-is G)))
+      ap (λ (x : ℕ). pair (D G) x nextAt) (ap (nth π (D G) f) z ∙ nth-end G) ∙ ap (λ (x : Rec). x 4 + 65536 * x 5) (D-a G) ∙ sym (no-next i (omega (arith, D-size, v-size, D-ptrs G, shift-is G)))
 
   prev-nil : prevOf π (D G) f 0 ≡ 0
   unfolding prevOf
@@ -259,19 +260,19 @@ module _ {π : Partition} {v : View} {f : ℕ} {dat : Rec} (G : Growing π v f d
   unfolding prevOf
   v-prev-nil = refl
 
-  D-prev : (i : ℕ) → Where i → i < size π (D G) f → pair (D G) (nth π (D G) f i) 6 ≡ prevOf π (D G) f i
+  D-prev : (i : ℕ) → Where i → i < size π (D G) f → pair (D G) (nth π (D G) f i) previousAt ≡ prevOf π (D G) f i
   unfolding newPointer datum withData put put2 blank
-  D-prev i (ahead h z) l = ap (λ (x : ℕ). pair (D G) x 6) (ap (nth π (D G) f) z ∙ nth-new G h) ∙ ap (λ (x : Rec). x 6 + 65536 * x 7) (D-q G h) ∙ sym (ap (prevOf π (D G) f) z ∙ prev-nil)
-  D-prev i (among zero k z) l = ap (λ (x : ℕ). pair (D G) x 6) (ap (nth π (D G) f) z ∙ nth-old G 0 k) ∙ go new refl
+  D-prev i (ahead h z) l = ap (λ (x : ℕ). pair (D G) x previousAt) (ap (nth π (D G) f) z ∙ nth-new G h) ∙ ap (λ (x : Rec). x 6 + 65536 * x 7) (D-q G h) ∙ sym (ap (prevOf π (D G) f) z ∙ prev-nil)
+  D-prev i (among zero k z) l = ap (λ (x : ℕ). pair (D G) x previousAt) (ap (nth π (D G) f) z ∙ nth-old G 0 k) ∙ go new refl
     where
-      go : (t : Bool) → new ≡ t → pair (D G) top 6 ≡ prevOf π (D G) f i
+      go : (t : Bool) → new ≡ t → pair (D G) top previousAt ≡ prevOf π (D G) f i
       go true h = prev-top h ∙ sym (ap (prevOf π (D G) f) (let w : i ≡ suc 0 = omega (arith, new-is G h .0) in w) ∙ prev-is 0 q (nth-new G h))
       go false h = prev-stays 0 k (λ y. absurd (true≢false (sym y ∙ h))) ∙ lk .prev 0 k ∙ v-prev-nil ∙ sym (ap (prevOf π (D G) f) (let w : i ≡ 0 = omega (arith, same-is G h) in w) ∙ prev-nil)
   D-prev i (among (suc j) k z) l =
-      ap (λ (x : ℕ). pair (D G) x 6) (ap (nth π (D G) f) z ∙ nth-old G (suc j) k) ∙ prev-stays (suc j) k (λ _ y. omega arith) ∙ lk .prev (suc j) k ∙ v-prev j
+      ap (λ (x : ℕ). pair (D G) x previousAt) (ap (nth π (D G) f) z ∙ nth-old G (suc j) k) ∙ prev-stays (suc j) k (λ _ y. omega arith) ∙ lk .prev (suc j) k ∙ v-prev j
       ∙ sym (ap (prevOf π (D G) f) (let w : i ≡ suc (shift G + j) = omega arith in w) ∙ prev-is (shift G + j) (nth π v f j) (nth-old G j (omega arith)))
   D-prev i (end z) l =
-      ap (λ (x : ℕ). pair (D G) x 6) (ap (nth π (D G) f) z ∙ nth-end G) ∙ ap (λ (x : Rec). x 6 + 65536 * x 7) (D-a G) ∙ word (pda π.drive old)
+      ap (λ (x : ℕ). pair (D G) x previousAt) (ap (nth π (D G) f) z ∙ nth-end G) ∙ ap (λ (x : Rec). x 6 + 65536 * x 7) (D-a G) ∙ word (pda π.drive old)
       ∙ sym (ap (prevOf π (D G) f) (let w : i ≡ suc (shift G + (p + r)) = omega (arith, D-ptrs G, shift-is G) in w) ∙ prev-is (shift G + (p + r)) old (nth-old G (p + r) (final G)))
 
   ptr-long : 0 < p → 64 ≤ r
@@ -284,22 +285,22 @@ module _ {π : Partition} {v : View} {f : ℕ} {dat : Rec} (G : Growing π v f d
       put2-off 0 _ _ w (λ z. omega arith) (λ z. omega arith) ∙ put-off 2 _ _ w (λ z. omega arith) ∙ put-off 3 _ _ w (λ z. omega arith)
       ∙ put2-off 4 _ _ w (λ z. omega arith) (λ z. omega arith) ∙ put2-off 8 _ _ w (λ z. omega arith) (λ z. omega arith)
 
-  D-clear : (t : Bool) → new ≡ t → 0 < ptrs π (D G) f → (i : ℕ) → i < 128 → len π (D G) f ≤ 64 + 128 * (ptrs π (D G) f - 1) + i → pair (D G) (ptr π (D G) f (ptrs π (D G) f - 1)) (8 + 2 * i) ≡ 0
+  D-clear : (t : Bool) → new ≡ t → 0 < ptrs π (D G) f → (i : ℕ) → i < 128 → len π (D G) f ≤ 64 + 128 * (ptrs π (D G) f - 1) + i → pair (D G) (ptr π (D G) f (ptrs π (D G) f - 1)) (slotAt i) ≡ 0
   unfolding slotted
   D-clear true h k i l m =
       let n : 1 ≤ i = omega (arith, D-len G, D-ptrs G, new-is G h .0, new-is G h .1) in
-      ap (λ (x : ℕ). pair (D G) x (8 + 2 * i)) (ap (ptr π (D G) f) (let z : ptrs π (D G) f - 1 ≡ p = omega (arith, D-ptrs G, new-is G h .0) in z) ∙ D-ptr-new G h)
+      ap (λ (x : ℕ). pair (D G) x (slotAt i)) (ap (ptr π (D G) f) (let z : ptrs π (D G) f - 1 ≡ p = omega (arith, D-ptrs G, new-is G h .0) in z) ∙ D-ptr-new G h)
       ∙ ap (λ (x : Rec). x (8 + 2 * i) + 65536 * x (8 + 2 * i + 1)) (D-q G h)
       ∙ ap₂ (λ (x y : ℕ). x + 65536 * y) (new-zero (8 + 2 * i) (omega arith)) (new-zero (8 + 2 * i + 1) (omega arith))
   D-clear false h k i l m =
       let b : 0 < p = omega (arith, D-ptrs G, same-is G h) in
       let y = slot-is G h long in
       let n : i ≢ ptrSlot r = λ z. omega (arith, D-len G, D-ptrs G, same-is G h, y .1 .1) in
-      ap (λ (x : ℕ). pair (D G) x (8 + 2 * i)) (ap (ptr π (D G) f) (let z : ptrs π (D G) f - 1 ≡ p - 1 = omega (arith, D-ptrs G, same-is G h) in z) ∙ D-ptr G (p - 1) (omega arith) ∙ sym (top-ptr G b))
+      ap (λ (x : ℕ). pair (D G) x (slotAt i)) (ap (ptr π (D G) f) (let z : ptrs π (D G) f - 1 ≡ p - 1 = omega (arith, D-ptrs G, same-is G h) in z) ∙ D-ptr G (p - 1) (omega arith) ∙ sym (top-ptr G b))
       ∙ ap (λ (x : Rec). x (8 + 2 * i) + 65536 * x (8 + 2 * i + 1)) (D-else G top (λ z. ptr≢f G (p - 1) (omega arith) (sym (top-ptr G b) ∙ z)) ∙ M-slot G h long)
       ∙ ap₂ (λ (x y : ℕ). x + 65536 * y) (put2-off (8 + 2 * ptrSlot r) (lda π.drive a) (v top) (8 + 2 * i) (λ z. n (omega arith)) (λ z. omega arith))
       (put2-off (8 + 2 * ptrSlot r) (lda π.drive a) (v top) (8 + 2 * i + 1) (λ z. omega arith) (λ z. n (omega arith)))
-      ∙ ap (λ (x : ℕ). pair v x (8 + 2 * i)) (top-ptr G b) ∙ lk .clear b i l (omega (arith, D-len G, D-ptrs G, same-is G h))
+      ∙ ap (λ (x : ℕ). pair v x (slotAt i)) (top-ptr G b) ∙ lk .clear b i l (omega (arith, D-len G, D-ptrs G, same-is G h))
     where
       long : 64 ≤ r
       long = ptr-long (omega (arith, D-ptrs G, same-is G h))

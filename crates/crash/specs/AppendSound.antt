@@ -13,6 +13,7 @@ use Rattle.base.specs.Laws.{both-of}
 use Rattle.drive.specs.Address.{lda}
 use Rattle.image.specs.View.{upd-same, upd-other, View, Rec, after, upd, pair, put2}
 use Rattle.image.specs.Saves.{withData}
+use Rattle.volume.specs.Words.{freeHeadAt, kindAt, nextAt, numberFreeAt}
 use Rattle.volume.specs.Files.{Partition, inside, candidate, len, ptrsFor, ptrs, name, nth, size, isFile, place, fileOf, owned, free, freeHead, sound}
 use Rattle.volume.specs.Owned.{own, member-owned, file-back, nth-fib, nth-data, fib-in, data-in, of-wf}
 use Rattle.volume.specs.Plans.{st, stores, newFirst, pibLess, datum, appended, grows, appendPlan}
@@ -80,7 +81,7 @@ module _ {π : Partition} {v : View} {f : ℕ} {dat : Rec} (G : Growing π v f d
   unfolding F
   D-text w l m = D-f G w ∙ grown-text π.drive v f a q p r (ptrsFor (r + 1)) top new (new-few G) w l m
 
-  pub D-kind : D G f 256 ≡ v f 256
+  pub D-kind : D G f 256 ≡ v f kindAt
   unfolding F
   D-kind = D-f G 256 ∙ grown-rest π.drive v f a q p r (ptrsFor (r + 1)) top new (new-few G) 256 (omega arith) (omega arith)
 
@@ -193,13 +194,13 @@ module _ {π : Partition} {v : View} {f : ℕ} {dat : Rec} (G : Growing π v f d
     unfolding R₁ newFirst
     prev-nil = put2-on 6 0 _
 
-    next-same : R₁ 4 + 65536 * R₁ 5 ≡ pair v g 4
+    next-same : R₁ 4 + 65536 * R₁ 5 ≡ pair v g nextAt
     unfolding R₁
     next-same = ap₂ (λ (x z : ℕ). x + 65536 * z) (first-links π.drive v g 4 (λ z. omega arith) (λ z. omega arith) (λ z. omega arith)) (first-links π.drive v g 5 (λ z. omega arith) (λ z. omega arith) (λ z. omega arith))
 
-    pib-is : R₂ ≡ put2 8 (lda π.drive g) (put2 12 (pair v π.s 12 - length T) (v π.s))
+    pib-is : R₂ ≡ put2 freeHeadAt (lda π.drive g) (put2 numberFreeAt (pair v π.s numberFreeAt - length T) (v π.s))
     unfolding R₂ pibLess
-    pib-is = ap (λ (m : ℕ). put2 8 (lda π.drive g) (put2 12 (pair v π.s 12 - m) (v π.s))) (sym T-length)
+    pib-is = ap (λ (m : ℕ). put2 freeHeadAt (lda π.drive g) (put2 numberFreeAt (pair v π.s numberFreeAt - m) (v π.s))) (sym T-length)
 
     pub append-sound : sound π (after (stores (appendPlan π v f dat)) v) ≡ true
     unfolding appendPlan appended stores D M F R₁ R₂

@@ -14,6 +14,7 @@ use Rattle.base.specs.Laws.{both-of}
 use Rattle.drive.specs.Address.{pda, lda}
 use Rattle.image.specs.View.{upd-same, upd-other, View, Rec, Store, after, upd, put, put2}
 use Rattle.image.specs.Saves.{withData}
+use Rattle.volume.specs.Words.{fillerAt, nextAt, previousAt}
 use Rattle.volume.specs.Files.{Partition, ptrIndex, ptrSlot, inside, candidate, len, ptrsFor, ptrs, ptr, nth, size, wellFormed, owned, free, freeHead, sound}
 use Rattle.volume.specs.Frame.{Shape}
 use Rattle.volume.specs.Owned.{nth-ptr, size-pos, size-last}
@@ -121,7 +122,7 @@ module _ {π : Partition} {v : View} {f : ℕ} {dat : Rec} (G : Growing π v f d
   a≢q = first≢second π v (G .ok) two
 
   pub st₃ : grows π v f ≡ true → Starts (freeHead π v ∷ after₁ π v (freeHead π v) ∷ after₁ π v (after₁ π v (freeHead π v)) ∷ []) (free π v)
-  st₃ h = free-starts π v (G .ok) 3 (subst (λ (t : Bool). asks t ≤ length (free π v)) h (G .enough))
+  st₃ h = free-starts π v (G .ok) fillerAt (subst (λ (t : Bool). asks t ≤ length (free π v)) h (G .enough))
 
   pub a-in : inside π (freeHead π v) ≡ true
   a-in = free-in π v (G .ok) a a-occ
@@ -228,13 +229,13 @@ module _ {π : Partition} {v : View} {f : ℕ} {dat : Rec} (G : Growing π v f d
       no w k m z = true≢false (sym (yes w (m z)) ∙ k)
 
   -- what holds of each of them
-  pub each-links : (P : ℕ → Rec → Type 0) → (0 < len π v f → P old (put2 4 (pda π.drive a) (v old)))
-      → (grows π v f ≡ true → 0 < ptrs π v f → P top (put2 6 (pda π.drive q) (v top))) → Each P links
+  pub each-links : (P : ℕ → Rec → Type 0) → (0 < len π v f → P old (put2 nextAt (pda π.drive a) (v old)))
+      → (grows π v f ≡ true → 0 < ptrs π v f → P top (put2 previousAt (pda π.drive q) (v top))) → Each P links
   unfolding lastStores topStores
   each-links P h k = each-append P olds tops
-      (each-pick P (ltb r 1) [] (st old (put2 4 (pda π.drive a) (v old)) ∷ []) (λ _. tt) (λ n. (h (ltb-false r 1 n), tt)))
-      (each-pick P new (pick (ltb p 1) [] (st top (put2 6 (pda π.drive q) (v top)) ∷ [])) []
-      (λ z. each-pick P (ltb p 1) [] (st top (put2 6 (pda π.drive q) (v top)) ∷ []) (λ _. tt) (λ n. (k z (ltb-false p 1 n), tt))) (λ _. tt))
+      (each-pick P (ltb r 1) [] (st old (put2 nextAt (pda π.drive a) (v old)) ∷ []) (λ _. tt) (λ n. (h (ltb-false r 1 n), tt)))
+      (each-pick P new (pick (ltb p 1) [] (st top (put2 previousAt (pda π.drive q) (v top)) ∷ [])) []
+      (λ z. each-pick P (ltb p 1) [] (st top (put2 previousAt (pda π.drive q) (v top)) ∷ []) (λ _. tt) (λ n. (k z (ltb-false p 1 n), tt))) (λ _. tt))
 
   pub each-mid : (P : ℕ → Rec → Type 0) → (grows π v f ≡ true → P q pointerRec)
       → (grows π v f ≡ false → 64 ≤ len π v f → P top slotRec)

@@ -12,6 +12,7 @@ use Rattle.base.specs.Tests.{pick, every, occ}
 use Rattle.base.specs.Laws.{cons-same, both-left}
 use Rattle.drive.specs.Address.{pda, lda}
 use Rattle.image.specs.View.{upd-same, upd-other, View, Rec, after, upd, pair, put, put2}
+use Rattle.volume.specs.Words.{nextAt, previousAt}
 use Rattle.volume.specs.Files.{Partition, inside, candidate, len, ptrsFor, ptrs, indirect, nth, size, wellFormed, isFile, fileOf, owned, nextOf, prevOf, free, freeHead, sound}
 use Rattle.volume.specs.Owned.{own, member-owned, nth-fib, fib-in, of-wf}
 use Rattle.volume.specs.Agree.{Clean}
@@ -164,8 +165,8 @@ module _ (π : Partition) (v : View) (ok : sound π v ≡ true) (two : 2 ≤ len
   new-links : Links π D (freeHead π v)
   unfolding nextOf prevOf size
   new-links = record {
-    next = λ i l. ap (λ (x : ℕ). pair D x 4) (sym (create-only i l)) ∙ no-link 4 (omega arith) (omega arith) ∙ sym (ap (λ (t : Bool). pick t (pda π.drive (nth π D a (suc i))) 0) (le-ltb (suc i) (ptrs π D a + suc (len π D a)) (omega (arith, fp, fl))));
-    prev = λ i l. ap (λ (x : ℕ). pair D x 6) (sym (create-only i l)) ∙ no-link 6 (omega arith) (omega arith) ∙ sym (ap (λ (t : Bool). pick t 0 (pda π.drive (nth π D a (i - 1)))) (eq-eqb i 0 (omega (arith, fp, fl))));
+    next = λ i l. ap (λ (x : ℕ). pair D x nextAt) (sym (create-only i l)) ∙ no-link 4 (omega arith) (omega arith) ∙ sym (ap (λ (t : Bool). pick t (pda π.drive (nth π D a (suc i))) 0) (le-ltb (suc i) (ptrs π D a + suc (len π D a)) (omega (arith, fp, fl))));
+    prev = λ i l. ap (λ (x : ℕ). pair D x previousAt) (sym (create-only i l)) ∙ no-link 6 (omega arith) (omega arith) ∙ sym (ap (λ (t : Bool). pick t 0 (pda π.drive (nth π D a (i - 1)))) (eq-eqb i 0 (omega (arith, fp, fl))));
     clear = λ q i l m. absurd (omega (arith, fp));
   }
     where

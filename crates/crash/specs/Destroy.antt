@@ -13,6 +13,7 @@ use Rattle.base.specs.Laws.{both-left}
 use Rattle.drive.specs.Address.{pda, pdaBlock, lda}
 use Rattle.drive.specs.Laws.{pda-pos}
 use Rattle.image.specs.View.{upd-same, upd-other, View, Rec, Store, after, upd, pair, put, put2}
+use Rattle.volume.specs.Words.{nextAt, numberFreeAt, previousAt, serialAt}
 use Rattle.volume.specs.Files.{Partition, inside, candidate, len, ptrs, nth, size, wellFormed, isFile, place, fileOf, owned, nextOf, prevOf, orNil, free, freeHead, chained, sound}
 use Rattle.volume.specs.Owned.{own, member, member-owned, file-back, nth-fib, size-pos, size-last}
 use Rattle.volume.specs.Agree.{Clean}
@@ -61,7 +62,7 @@ module _ (π : Partition) (v : View) (ok : sound π v ≡ true) (f : ℕ) (cf : 
   lasts = lastGoneStores π.drive v a last k
 
   abbrev tailRec : Rec
-  tailRec = put2 4 (pda π.drive top) (v tl)
+  tailRec = put2 nextAt (pda π.drive top) (v tl)
 
   abbrev pibRec : Rec
   pibRec = pibMore π.drive v π.s last (p + k + 1)
@@ -131,7 +132,7 @@ module _ (π : Partition) (v : View) (ok : sound π v ≡ true) (f : ℕ) (cf : 
   unfolding fibGone topGone gone put put2
   R-zero = go (ltb p 1)
     where
-      go : (x : Bool) → pick x (topGone π.drive v a tl f) (put2 0 0 (v f)) 0 + 65536 * pick x (topGone π.drive v a tl f) (put2 0 0 (v f)) 1 ≡ 0
+      go : (x : Bool) → pick x (topGone π.drive v a tl f) (put2 serialAt 0 (v f)) 0 + 65536 * pick x (topGone π.drive v a tl f) (put2 serialAt 0 (v f)) 1 ≡ 0
       go true = refl
       go false = refl
 
@@ -210,9 +211,9 @@ module _ (π : Partition) (v : View) (ok : sound π v ≡ true) (f : ℕ) (cf : 
 
   R-word : (w : ℕ) → (x : Bool) → ltb (ptrs π v f) 1 ≡ x → 4 ≤ w → w < 8 → (x ≡ true → w < 6) → R w ≡ v f w
   unfolding fibGone
-  R-word w x q l m h = ap (λ (t : Bool). pick t (topGone π.drive v a tl f) (put2 0 0 (v f)) w) q ∙ go x h
+  R-word w x q l m h = ap (λ (t : Bool). pick t (topGone π.drive v a tl f) (put2 serialAt 0 (v f)) w) q ∙ go x h
     where
-      go : (x : Bool) → (x ≡ true → w < 6) → pick x (topGone π.drive v a tl f) (put2 0 0 (v f)) w ≡ v f w
+      go : (x : Bool) → (x ≡ true → w < 6) → pick x (topGone π.drive v a tl f) (put2 serialAt 0 (v f)) w ≡ v f w
       go true h = top-word f w l (h refl)
       go false h = put2-off 0 0 (v f) w (λ z. omega arith) (λ z. omega arith)
 
@@ -237,23 +238,23 @@ module _ (π : Partition) (v : View) (ok : sound π v ≡ true) (f : ℕ) (cf : 
   top-prev b = put2-on 6 (pda π.drive tl) (gone π.drive v a b)
 
   -- the first points back to the old tail
-  W-top : pair W (nth π v f 0) 6 ≡ pda π.drive (freeTail π v)
+  W-top : pair W (nth π v f 0) previousAt ≡ pda π.drive (freeTail π v)
   unfolding after lastGoneStores topGoneStores fibGone
   W-top =
-      ap (λ (x : View). pair x top 6) (after-append tops (lasts ++ ends) D)
+      ap (λ (x : View). pair x top previousAt) (after-append tops (lasts ++ ends) D)
       ∙ after-each Q (lasts ++ ends) (after tops D)
       (each-append Q lasts ends (each-pick Q (ltb k 1) [] (st last (gone π.drive v a last) ∷ []) (λ _. tt) (λ h. ((λ z. absurd (let y = ltb-false k 1 h in omega (arith, unique (p + k) 0 final first z))), tt)))
       ((λ z. absurd (apart tl 0 tl-occ first z)), ((λ z. absurd (off-pib π top (in-mine 0 first) (sym z))), tt)))
-      (λ x z. subst (λ (b : ℕ). pair (after tops D) b 6 ≡ pda π.drive tl) (sym z) (go (ltb p 1) refl)) top refl
+      (λ x z. subst (λ (b : ℕ). pair (after tops D) b previousAt ≡ pda π.drive tl) (sym z) (go (ltb p 1) refl)) top refl
     where
       Q : ℕ → Rec → Type 0
       Q x r = x ≡ top → r 6 + 65536 * r 7 ≡ pda π.drive tl
 
-      go : (t : Bool) → ltb p 1 ≡ t → pair (after (pick t [] (st top (topGone π.drive v a tl top) ∷ [])) D) top 6 ≡ pda π.drive tl
+      go : (t : Bool) → ltb p 1 ≡ t → pair (after (pick t [] (st top (topGone π.drive v a tl top) ∷ [])) D) top previousAt ≡ pda π.drive tl
       go true h =
           let z : p ≡ 0 = (let y = ltb-true p 1 h in omega arith) in
-          ap (λ (b : ℕ). pair D b 6) (ap (nth π v f) (sym z) ∙ nth-fib π v f)
-          ∙ ap (λ (r : Rec). r 6 + 65536 * r 7) (upd-same v f R ∙ ap (λ (t : Bool). pick t (topGone π.drive v a tl f) (put2 0 0 (v f))) h) ∙ top-prev f
+          ap (λ (b : ℕ). pair D b previousAt) (ap (nth π v f) (sym z) ∙ nth-fib π v f)
+          ∙ ap (λ (r : Rec). r 6 + 65536 * r 7) (upd-same v f R ∙ ap (λ (t : Bool). pick t (topGone π.drive v a tl f) (put2 serialAt 0 (v f))) h) ∙ top-prev f
       go false h = ap (λ (r : Rec). r 6 + 65536 * r 7) (upd-same D top (topGone π.drive v a tl top)) ∙ top-prev top
 
   -- ---- the new chain
@@ -275,7 +276,7 @@ module _ (π : Partition) (v : View) (ok : sound π v ≡ true) (f : ℕ) (cf : 
   two : (i w : ℕ) → i < size π v f → 4 ≤ w → w < 7 → (i ≡ 0 → w < 5) → pair W (nth π v f i) w ≡ pair v (nth π v f i) w
   two i w l a b h = ap₂ (λ (x y : ℕ). x + 65536 * y) (W-word i w l a (omega arith) (λ z. omega (arith, h z))) (W-word i (w + 1) l (omega arith) (omega arith) (λ z. omega (arith, h z)))
 
-  prevs : (j : ℕ) → j < size π v f → pair W (nth π v f j) 6 ≡ orNil π (B j)
+  prevs : (j : ℕ) → j < size π v f → pair W (nth π v f j) previousAt ≡ orNil π (B j)
   unfolding B prevOf
   prevs zero l = W-top ∙ sym (orNil-in tl (free-in π v ok tl tl-occ))
   prevs (suc j) l =
@@ -284,7 +285,7 @@ module _ (π : Partition) (v : View) (ok : sound π v ≡ true) (f : ℕ) (cf : 
       ∙ ap (λ (i : ℕ). pda π.drive (nth π v f i)) (let z : suc j - 1 ≡ j = omega arith in z)
       ∙ sym (orNil-in (F j) (in-mine j (omega arith)))
 
-  nexts : (j : ℕ) → j < size π v f → pair W (nth π v f j) 4 ≡ orNil π (pick (ltb (suc j) (size π v f)) (nth π v f (suc j)) 0)
+  nexts : (j : ℕ) → j < size π v f → pair W (nth π v f j) nextAt ≡ orNil π (pick (ltb (suc j) (size π v f)) (nth π v f (suc j)) 0)
   unfolding nextOf
   nexts j l = two j 4 l (omega arith) (omega arith) (λ z. omega arith) ∙ lk .next j l ∙ go (ltb (suc j) n) refl
     where
@@ -334,7 +335,7 @@ module _ (π : Partition) (v : View) (ok : sound π v ≡ true) (f : ℕ) (cf : 
           once = λ b i. occ-append b (free π v) blocks ∙ once b i (owned π v b) refl (eqb (fileOf π v b) f) refl ∙ ap (λ (t : Bool). pick t 0 1) (wo b);
           head = ap (λ (r : Rec). r 8 + 65536 * r 9) W-pib ∙ sound-head π v ok ∙ ap (lda π.drive) (head-join (free π v) blocks some);
           tail = ap (λ (r : Rec). r 10 + 65536 * r 11) W-pib ∙ word (lda π.drive last) ∙ ap (lda π.drive) (sym last-is);
-          number = ap (λ (r : Rec). r 12 + 65536 * r 13) W-pib ∙ word (pair v π.s 12 + (p + k + 1)) ∙ omega (arith, size-suc, sound-number π v ok, length-append (free π v) blocks, length-tab 0 n F);
+          number = ap (λ (r : Rec). r 12 + 65536 * r 13) W-pib ∙ word (pair v π.s numberFreeAt + (p + k + 1)) ∙ omega (arith, size-suc, sound-number π v ok, length-append (free π v) blocks, length-tab 0 n F);
           some = omega (arith, length-append (free π v) blocks, some);
         })
       where

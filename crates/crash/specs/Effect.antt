@@ -21,7 +21,7 @@ use Rattle.frame.specs.Sound.{sound-clean, spare-block}
 use Rattle.crash.specs.Cut.{Good}
 use Rattle.crash.specs.Records.{fresh-nil, fresh-kind}
 use Rattle.crash.specs.FreeBlocks.{first-in, nth-unique, data-rel}
-use Rattle.volume.specs.Words.{kindAt}
+use Rattle.volume.specs.Words.{kindAt, relativeAt}
 use Rattle.image.specs.Saves.{words}
 use Rattle.volume.specs.Calls.{Call, create, write, describe, destroy, repair}
 use Rattle.frame.specs.Mended.{mended-agree}
@@ -138,7 +138,7 @@ module _ (π : Partition) (low : π.s < π.e) (pos : 0 < π.s) (v : View) (ok : 
       file = one-file b X o;
       long = sym (kept-len π v (upd v b X) f (shape b X o)) ∙ sym (ap (λ (t : Bool). pick t (len π v f) (suc r)) (lt-ltb r (len π v f) lr));
       here = λ x l. ap (λ (y : ℕ). upd v b X y x) (one-name b X o r lr) ∙ ap (λ (y : Rec). y x) (upd-same v b X) ∙ simp (le-ltb x 8 l);
-      rest = λ i l n x m. ap (λ (y : ℕ). upd v b X y x) (one-name b X o i l) ∙ ap (λ (y : Rec). y x) (upd-other v b X (name π v f i) (λ z. n (sym (data-rel π v ok f cf i l) ∙ ap (λ (y : ℕ). v y 2) z ∙ data-rel π v ok f cf r lr)));
+      rest = λ i l n x m. ap (λ (y : ℕ). upd v b X y x) (one-name b X o i l) ∙ ap (λ (y : Rec). y x) (upd-other v b X (name π v f i) (λ z. n (sym (data-rel π v ok f cf i l) ∙ ap (λ (y : ℕ). v y relativeAt) z ∙ data-rel π v ok f cf r lr)));
       kind = sym (o .fib 256 (omega arith));
       text = λ x l m. ap (λ (y : Rec). y x) (upd-other v b X f f≢b);
     }

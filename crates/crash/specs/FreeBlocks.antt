@@ -13,6 +13,7 @@ use Rattle.base.specs.Laws.{both-left}
 use Rattle.drive.specs.Address.{pdaBlock}
 use Rattle.drive.specs.Laws.{pda-back}
 use Rattle.image.specs.View.{View}
+use Rattle.volume.specs.Words.{relativeAt}
 use Rattle.volume.specs.Files.{Partition, inside, candidate, len, ptrs, indirect, ptr, entry, name, nth, size, wellFormed, place, fileOf, owned, free, freeHead, sound}
 use Rattle.volume.specs.Owned.{member-owned, place-back, nth-fib, fib-in, wf-of, names-rel}
 use Rattle.frame.specs.Soft.{cand-serial}
@@ -47,7 +48,7 @@ module _ (π : Partition) (v : View) (ok : sound π v ≡ true) where
     g = after₁ π v a
 
     pub starts-two : Starts (freeHead π v ∷ after₁ π v (freeHead π v) ∷ []) (free π v)
-    starts-two = free-starts π v ok 2 two
+    starts-two = free-starts π v ok relativeAt two
 
     pub second-occ : 0 < occ (after₁ π v (freeHead π v)) (free π v)
     second-occ = omega (arith, ap (occ g) (starts-two .is), occ-more g a (g ∷ starts-two .rest), occ-here g (starts-two .rest))
@@ -75,10 +76,10 @@ module _ (π : Partition) (v : View) (ok : sound π v ≡ true) where
     nth-unique i j l m z = sym (place-back π v f cf wf i l) ∙ ap (place π v) z ∙ place-back π v f cf wf j m
 
     -- a data block has its own number; a pointer block too
-    pub data-rel : (r : ℕ) → r < len π v f → v (name π v f r) 2 ≡ r
+    pub data-rel : (r : ℕ) → r < len π v f → v (name π v f r) relativeAt ≡ r
     unfolding name
     data-rel r l = names-rel π v f (entry π v f r) r (wf-of π v f wf .dataOk r l)
 
-    pub ptr-rel : (q : ℕ) → q < ptrs π v f → v (ptr π v f q) 2 ≡ 65532 - q
+    pub ptr-rel : (q : ℕ) → q < ptrs π v f → v (ptr π v f q) relativeAt ≡ 65532 - q
     unfolding ptr
     ptr-rel q l = names-rel π v f (indirect π v f q) (65532 - q) (wf-of π v f wf .ptrsOk q l)

@@ -17,7 +17,8 @@ use Rattle.volume.specs.Files.{Partition, freeSound, inside, candidate, wellFor
 use Rattle.volume.specs.Agree.{Clean}
 use Rattle.frame.specs.Chain.{chain-end, chain-on}
 use Rattle.crash.specs.Links.{Links, of-links}
-use Rattle.crash.specs.Sums.{sum, sum-add, sum-nil, sum-most, sum-here}
+use Rattle.base.specs.Sums.{sum, sum-add, sum-nil, sum-most, sum-here}
+use Rattle.volume.specs.Words.{freeHeadAt, freeTailAt, numberFreeAt}
 
 -- ---- a list of distinct blocks of the partition is no longer than the partition
 
@@ -47,9 +48,9 @@ module _ (π : Partition) where
       pub inn : within π l ≡ true
       pub ways : chained π v 0 l ≡ true
       pub once : (b : ℕ) → inside π b ≡ true → occ b l ≡ pick (owned π v b) 0 1
-      pub head : pair v π.s 8 ≡ lda π.drive (headOf 0 l)
-      pub tail : pair v π.s 10 ≡ lda π.drive (lastOf 0 l)
-      pub number : pair v π.s 12 ≡ length l
+      pub head : pair v π.s freeHeadAt ≡ lda π.drive (headOf 0 l)
+      pub tail : pair v π.s freeTailAt ≡ lda π.drive (lastOf 0 l)
+      pub number : pair v π.s numberFreeAt ≡ length l
       pub some : 0 < length l
 
     chain-list : (fuel x y : ℕ) (l : List ℕ) → within π (y ∷ l) ≡ true → chained π v x (y ∷ l) ≡ true → length (y ∷ l) ≤ fuel → chain π v fuel y ≡ y ∷ l

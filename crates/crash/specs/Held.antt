@@ -16,11 +16,12 @@ use Rattle.frame.specs.Turn.{Each, each-map, after-each}
 use Rattle.crash.specs.Cut.{Good}
 use Rattle.base.specs.declared.Refusal.the-variants.{BadImage, BadPartition}
 use Rattle.image.specs.Stores.{bytesFrom}
+use Rattle.volume.specs.Words.{partitionEndAt, partitionStartAt}
 use Rattle.volume.specs.Answers.{imageGood, partGood, endOf, partition}
 use Rattle.volume.specs.Reads.{Lies, lies}
 use Rattle.volume.specs.declared.Part.{Part}
 use Rattle.volume.specs.declared.Part.the-variants as part
-use Rattle.crash.specs.Fitting.{view-fits}
+use Rattle.frame.specs.Fitting.{view-fits}
 use Rattle.crash.specs.Lawful.{Placed, Lawful, fixedFrom}
 
 -- ---- bytes
@@ -57,10 +58,10 @@ stored-bytes (x ∷ ss) l b h =
 
 -- ---- the partition is read from the length and from the PIB's words 126 to 129
 
-pub same-partition : (d s : ℕ) (l l′ : List ℕ) → length l ≡ length l′ → pair (view l) s 126 ≡ pair (view l′) s 126 → pair (view l) s 128 ≡ pair (view l′) s 128
+pub same-partition : (d s : ℕ) (l l′ : List ℕ) → length l ≡ length l′ → pair (view l) s partitionStartAt ≡ pair (view l′) s partitionStartAt → pair (view l) s partitionEndAt ≡ pair (view l′) s partitionEndAt
     → partition d l s ≡ partition d l′ s
 unfolding partition partGood endOf
-same-partition d s l l′ n x y = ap₂ (λ (m a : ℕ). F m a (pair (view l) s 128)) n x ∙ ap (F (length l′) (pair (view l′) s 126)) y
+same-partition d s l l′ n x y = ap₂ (λ (m a : ℕ). F m a (pair (view l) s partitionEndAt)) n x ∙ ap (F (length l′) (pair (view l′) s partitionStartAt)) y
   where
     F : ℕ → ℕ → ℕ → Part
     F m a b =

@@ -11,6 +11,7 @@ use borrow.Author.Tests.{eqb-true, eqb-false, lt-ltb, le-ltb, eq-eqb, ne-eqb}
 use Rattle.base.specs.Tests.{pick, tabFrom, headOf, lastOf, occ}
 use Rattle.base.specs.Laws.{both-left, both-right, both-of}
 use Rattle.image.specs.View.{View, Rec, pair}
+use Rattle.volume.specs.Words.{nextAt, previousAt}
 use Rattle.volume.specs.Files.{Partition, inside, orNil, chained, within}
 use Rattle.frame.specs.Sound.{last-occ, occ-here, occ-more}
 use Rattle.crash.specs.Whole.{last-append}
@@ -66,12 +67,12 @@ occ-only b i (suc k) F j l m h u = go (eqb i j) refl (λ n. occ-only b (suc i) k
 module _ (π : Partition) (v W : View) where
   -- the chain l, whose last block now points on to m
   pub chained-join : (x tl : ℕ) (l m : List ℕ) → 0 < length l → lastOf x l ≡ tl → chained π v x l ≡ true → ((b : ℕ) → 0 < occ b l → b ≢ tl → v b ≡ W b) → ((b : ℕ) → occ b l ≤ 1)
-      → pair v tl 6 ≡ pair W tl 6 → pair W tl 4 ≡ orNil π (headOf 0 m) → chained π W tl m ≡ true → chained π W x (l ++ m) ≡ true
+      → pair v tl previousAt ≡ pair W tl previousAt → pair W tl nextAt ≡ orNil π (headOf 0 m) → chained π W tl m ≡ true → chained π W x (l ++ m) ≡ true
   unfolding chained lastOf headOf
   chained-join x tl [] m p q h k o a b c = absurd (omega arith)
   chained-join x tl (y ∷ []) m p q h k o a b c =
-      both-of (eq-eqb _ _ (ap (λ (z : ℕ). pair W z 6) q ∙ sym a ∙ ap (λ (z : ℕ). pair v z 6) (sym q) ∙ eqb-true _ _ (both-left _ _ h)))
-      (both-of (eq-eqb _ _ (ap (λ (z : ℕ). pair W z 4) q ∙ b)) (subst (λ (z : ℕ). chained π W z m ≡ true) (sym q) c))
+      both-of (eq-eqb _ _ (ap (λ (z : ℕ). pair W z previousAt) q ∙ sym a ∙ ap (λ (z : ℕ). pair v z previousAt) (sym q) ∙ eqb-true _ _ (both-left _ _ h)))
+      (both-of (eq-eqb _ _ (ap (λ (z : ℕ). pair W z nextAt) q ∙ b)) (subst (λ (z : ℕ). chained π W z m ≡ true) (sym q) c))
   chained-join x tl (y ∷ z ∷ l) m p q h k o a b c =
       let ne : y ≢ tl = λ w. omega (arith, o tl, last-occ y (z ∷ l) (omega arith), ap (λ (u : ℕ). occ u (z ∷ l)) q, occ-here tl (z ∷ l), ap (λ (u : ℕ). occ tl (u ∷ z ∷ l)) w) in
       let sm = k y (omega (arith, occ-here y (z ∷ l))) ne in
@@ -80,8 +81,8 @@ module _ (π : Partition) (v W : View) where
       (chained-join y tl (z ∷ l) m (omega arith) q (both-right _ _ (both-right _ _ h)) (λ u w. k u (omega (arith, occ-more u y (z ∷ l)))) (λ u. omega (arith, o u, occ-more u y (z ∷ l))) a b c))
 
   -- a table of blocks linked in its order
-  pub chained-tab : (F B : ℕ → ℕ) (n : ℕ) → ((j : ℕ) → j < n → pair W (F j) 6 ≡ orNil π (B j)) → ((j : ℕ) → B (suc j) ≡ F j)
-      → ((j : ℕ) → j < n → pair W (F j) 4 ≡ orNil π (pick (ltb (suc j) n) (F (suc j)) 0)) → (k i x : ℕ) → i + k ≡ n → B i ≡ x → chained π W x (tabFrom i k F) ≡ true
+  pub chained-tab : (F B : ℕ → ℕ) (n : ℕ) → ((j : ℕ) → j < n → pair W (F j) previousAt ≡ orNil π (B j)) → ((j : ℕ) → B (suc j) ≡ F j)
+      → ((j : ℕ) → j < n → pair W (F j) nextAt ≡ orNil π (pick (ltb (suc j) n) (F (suc j)) 0)) → (k i x : ℕ) → i + k ≡ n → B i ≡ x → chained π W x (tabFrom i k F) ≡ true
   unfolding chained tabFrom headOf
   chained-tab F B n p q r zero i x z w = refl
   chained-tab F B n p q r (suc k) i x z w =

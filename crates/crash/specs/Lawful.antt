@@ -22,9 +22,10 @@ use Rattle.frame.specs.Sound.{tail-free, sound-clean, sound-number, free-in, af
 use Rattle.crash.specs.Records.{put2-off}
 use Rattle.crash.specs.FreeBlocks.{first-in, second-occ}
 use Rattle.drive.specs.Fits.{pda-small, lda-small}
+use Rattle.volume.specs.Words.{fillerAt, nextAt, numberFreeAt, serialAt}
 use Rattle.frame.specs.Chain.{within-those, length-those}
 use Rattle.frame.specs.Repair.{repaired-mine, repaired-free}
-use Rattle.crash.specs.Fitting.{put-fits, put2-fits, blank-fits, Words, data-fits, text-fits, trimmed-fits}
+use Rattle.frame.specs.Fitting.{put-fits, put2-fits, blank-fits, Words, data-fits, text-fits, trimmed-fits}
 
 -- a partition in its place on a drive, in a view of records
 pub record Placed (π : Partition) (v : View) : Type 0 where
@@ -91,9 +92,9 @@ count-most (suc k) P = go (P k) (count-most k P)
 chain-short : (π : Partition) (v : View) (k b : ℕ) → length (chain π v k b) ≤ k
 unfolding chain
 chain-short π v zero b = omega arith
-chain-short π v (suc k) b = go (eqb (pair v b 4) 0) (chain-short π v k (pdaBlock π.drive (pair v b 4)))
+chain-short π v (suc k) b = go (eqb (pair v b nextAt) 0) (chain-short π v k (pdaBlock π.drive (pair v b nextAt)))
   where
-    go : (t : Bool) → length (chain π v k (pdaBlock π.drive (pair v b 4))) ≤ k → length (b ∷ elim t [ true ↦ [] | false ↦ chain π v k (pdaBlock π.drive (pair v b 4)) ]) ≤ suc k
+    go : (t : Bool) → length (chain π v k (pdaBlock π.drive (pair v b nextAt))) ≤ k → length (b ∷ elim t [ true ↦ [] | false ↦ chain π v k (pdaBlock π.drive (pair v b nextAt)) ]) ≤ suc k
     go true ih = omega arith
     go false ih = omega arith
 
@@ -114,7 +115,7 @@ module _ {π : Partition} {v : View} (at : Placed π v) where
   pub at-pib : {r : Rec} → Fits r → ((w : ℕ) → fixedFrom ≤ w → r w ≡ v π.s w) → Lawful π v π.s r
   at-pib h k = record { from = omega arith; to = omega (arith, at .low); fits = h; pib = λ _. k }
 
-  number-small : pair v π.s 12 < 4294967296
+  number-small : pair v π.s numberFreeAt < 4294967296
   number-small = omega (arith, at .fits π.s .small 12, at .fits π.s .small 13)
 
   pub first-lawful : (g : ℕ) → inside π g ≡ true → Lawful π v g (newFirst π.drive v g)
@@ -124,7 +125,7 @@ module _ {π : Partition} {v : View} (at : Placed π v) where
   pub less-lawful : (g n : ℕ) → inside π g ≡ true → Lawful π v π.s (pibLess π.drive v π.s g n)
   unfolding pibLess
   less-lawful g n i = at-pib
-      (put2-fits 8 _ (omega arith) (lda-fits g (le-end g i)) (put2-fits 12 (pair v π.s 12 - n) (omega arith) (omega (arith, number-small)) (at .fits π.s)))
+      (put2-fits 8 _ (omega arith) (lda-fits g (le-end g i)) (put2-fits 12 (pair v π.s numberFreeAt - n) (omega arith) (omega (arith, number-small)) (at .fits π.s)))
       (λ w l. put2-off 8 _ _ w (λ z. omega arith) (λ z. omega arith) ∙ put2-off 12 _ (v π.s) w (λ z. omega arith) (λ z. omega arith))
 
   -- ---- the calls on a sound partition
@@ -132,7 +133,7 @@ module _ {π : Partition} {v : View} (at : Placed π v) where
     pub create-lawful : 2 ≤ length (free π v) → (kind : ℕ) → kind < 65536 → Each (Lawful π v) (stores (createPlan π v kind))
     unfolding stores createPlan freshFib
     create-lawful two kind k = (
-      inner h-in (put2-fits 0 _ (omega arith) (pda-fits h (le-end h h-in)) (put-fits 2 65535 (omega arith) (omega arith) (put-fits 3 (v h 3) (omega arith) (at .fits h .small 3)
+      inner h-in (put2-fits 0 _ (omega arith) (pda-fits h (le-end h h-in)) (put-fits 2 65535 (omega arith) (omega arith) (put-fits 3 (v h fillerAt) (omega arith) (at .fits h .small 3)
           (put-fits 256 kind (omega arith) k (put-fits 257 1 (omega arith) (omega arith) (put-fits 258 65535 (omega arith) (omega arith)
           (put2-fits 259 _ (omega arith) lh (put-fits 261 65535 (omega arith) (omega arith) (put2-fits 262 _ (omega arith) lh blank-fits))))))))),
       (first-lawful g g-in, (less-lawful g 1 g-in, tt)),
@@ -184,7 +185,7 @@ module _ {π : Partition} {v : View} (at : Placed π v) where
       unfolding topGone
       top-fits b = put2-fits 6 _ (omega arith) (pda-fits (freeTail π v) (le-end _ tail-in)) (gone-fits b)
 
-      number-few : pair v π.s 12 < 69552
+      number-few : pair v π.s numberFreeAt < 69552
       unfolding free
       number-few = omega (arith, sound-number π v ok, chain-short π v (π.e - π.s) (freeHead π v), at .few)
 
@@ -198,7 +199,7 @@ module _ {π : Partition} {v : View} (at : Placed π v) where
             (each-pick (Lawful π v) (ltb k 1) [] (st last (gone π.drive v h last) ∷ []) (λ _. tt) (λ _. (inner last-in′ (gone-fits last), tt))) (
               inner tail-in (put2-fits 4 _ (omega arith) (pda-fits top (le-end top top-in)) (at .fits tl)),
               (
-                at-pib (put2-fits 10 _ (omega arith) (lda-fits last (le-end last last-in′)) (put2-fits 12 (pair v π.s 12 + (p + k + 1)) (omega arith) (omega (arith, number-few, few-ptrs π v f cf wf, wf-of π v f wf .short)) (at .fits π.s)))
+                at-pib (put2-fits 10 _ (omega arith) (lda-fits last (le-end last last-in′)) (put2-fits 12 (pair v π.s numberFreeAt + (p + k + 1)) (omega arith) (omega (arith, number-few, few-ptrs π v f cf wf, wf-of π v f wf .short)) (at .fits π.s)))
                     (λ w l. put2-off 10 _ _ w (λ z. omega arith) (λ z. omega arith) ∙ put2-off 12 _ (v π.s) w (λ z. omega arith) (λ z. omega arith)),
                 tt,
               ),
@@ -229,7 +230,7 @@ module _ {π : Partition} {v : View} (at : Placed π v) where
           last-in′ : inside π (nth π v f (ptrs π v f + len π v f)) ≡ true
           last-in′ = nth-in _ (size-last π v f)
 
-          fib : (t : Bool) → Fits (pick t (topGone π.drive v h tl f) (put2 0 0 (v f)))
+          fib : (t : Bool) → Fits (pick t (topGone π.drive v h tl f) (put2 serialAt 0 (v f)))
           fib true = top-fits f
           fib false = put2-fits 0 0 (omega arith) (omega arith) (at .fits f)
 

@@ -257,7 +257,7 @@ free-and-needed d s l b a = record {
   answer = ap (λ (x : Part). answers.inPartition x (λ e. checkIn (partitionOf d s e) (view l))) (y .held .good)
       ∙ ap (checkClean π (view l)) (clean-unmarred π (view l) (sound-clean π (view l) (y .is))) ∙ ap (λ (t : Bool). pick t (tallied π (view l)) (Refused Unsound)) (y .is)
       ∙ ap₂ (λ (x z : ℕ). Done (count (y .end - s) (λ i. isFile π (view l) (blockAt π i))) x z) (owned-needed π (view l) low ∙ sym same) (sym (free-unowned π (view l) low (y .is)));
-  total = ap₂ (λ (x z : ℕ). x + z) same refl ∙ (let q = counts.free-and-needed π (view l) low (y .is) in let z : needed π (view l) + pair (view l) s 12 ≡ y .end - s = omega arith in z) ∙ ap (λ (e : ℕ). e - s) (sym (end-is (y .held)));
+  total = ap₂ (λ (x z : ℕ). x + z) same refl ∙ (let q = counts.free-and-needed π (view l) low (y .is) in let z : needed π (view l) + pair (view l) s numberFreeAt ≡ y .end - s = omega arith in z) ∙ ap (λ (e : ℕ). e - s) (sym (end-is (y .held)));
 }
   where
     y : Sound d s l

@@ -9,7 +9,6 @@ pub mod Answering
 pub mod SameFile
 pub mod Cut
 pub mod Links
-pub mod Sums
 pub mod FreeChain
 pub mod Joined
 pub mod Whole
@@ -26,7 +25,6 @@ pub mod AppendLinks
 pub mod AppendSound
 pub mod Effect
 -- from views to images: lawful stores, what a call comes to, an image that holds a partition
-pub mod Fitting
 pub mod Lawful
 pub mod AppendLawful
 pub mod Settled

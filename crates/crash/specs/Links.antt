@@ -9,6 +9,7 @@ use Rattle.base.specs.Tests.{pick, all}
 use Rattle.drive.specs.Address.{pda}
 use Rattle.image.specs.View.{View, Rec, pair}
 use Rattle.base.specs.Laws.{all-at, all-of, pick-same, both-left, both-right, both-of}
+use Rattle.volume.specs.Words.{nextAt, previousAt, slotAt}
 use Rattle.volume.specs.Files.{Partition, len, ptrs, ptr, nth, size, nextOf, prevOf, linked}
 use Rattle.volume.specs.Frame.{Shape, kept-len, kept-ptrs, kept-ptr, kept-nth, kept-size}
 use Rattle.volume.specs.Owned.{nth-ptr, ptr-in}
@@ -16,9 +17,9 @@ use Rattle.volume.specs.Owned.{nth-ptr, ptr-in}
 module _ (π : Partition) where
   -- f is linked, field by field
   pub record Links (v : View) (f : ℕ) : Type 0 where
-    pub next : (i : ℕ) → i < size π v f → pair v (nth π v f i) 4 ≡ nextOf π v f i
-    pub prev : (i : ℕ) → i < size π v f → pair v (nth π v f i) 6 ≡ prevOf π v f i
-    pub clear : 0 < ptrs π v f → (i : ℕ) → i < 128 → len π v f ≤ 64 + 128 * (ptrs π v f - 1) + i → pair v (ptr π v f (ptrs π v f - 1)) (8 + 2 * i) ≡ 0
+    pub next : (i : ℕ) → i < size π v f → pair v (nth π v f i) nextAt ≡ nextOf π v f i
+    pub prev : (i : ℕ) → i < size π v f → pair v (nth π v f i) previousAt ≡ prevOf π v f i
+    pub clear : 0 < ptrs π v f → (i : ℕ) → i < 128 → len π v f ≤ 64 + 128 * (ptrs π v f - 1) + i → pair v (ptr π v f (ptrs π v f - 1)) (slotAt i) ≡ 0
 
   pub links-of : (v : View) (f : ℕ) → linked π v f ≡ true → Links v f
   unfolding linked
@@ -32,8 +33,8 @@ module _ (π : Partition) where
       off true x q k = absurd (true≢false q)
       off false x q k = eqb-true x 0 k
 
-      cut : (t : Bool) → t ≡ false → (t || all 128 (λ i. ltb (64 + 128 * (ptrs π v f - 1) + i) (len π v f) || eqb (pair v (ptr π v f (ptrs π v f - 1)) (8 + 2 * i)) 0)) ≡ true
-          → (i : ℕ) → i < 128 → len π v f ≤ 64 + 128 * (ptrs π v f - 1) + i → pair v (ptr π v f (ptrs π v f - 1)) (8 + 2 * i) ≡ 0
+      cut : (t : Bool) → t ≡ false → (t || all 128 (λ i. ltb (64 + 128 * (ptrs π v f - 1) + i) (len π v f) || eqb (pair v (ptr π v f (ptrs π v f - 1)) (slotAt i)) 0)) ≡ true
+          → (i : ℕ) → i < 128 → len π v f ≤ 64 + 128 * (ptrs π v f - 1) + i → pair v (ptr π v f (ptrs π v f - 1)) (slotAt i) ≡ 0
       cut true q k i l m = absurd (true≢false q)
       cut false q k i l m = off _ _ (le-ltb (64 + 128 * (ptrs π v f - 1) + i) (len π v f) m) (all-at 128 _ k i l)
 
@@ -45,7 +46,7 @@ module _ (π : Partition) where
       one true x k = refl
       one false x k = eq-eqb x 0 (k refl)
 
-      go : (t : Bool) → eqb (ptrs π v f) 0 ≡ t → (t || all 128 (λ i. ltb (64 + 128 * (ptrs π v f - 1) + i) (len π v f) || eqb (pair v (ptr π v f (ptrs π v f - 1)) (8 + 2 * i)) 0)) ≡ true
+      go : (t : Bool) → eqb (ptrs π v f) 0 ≡ t → (t || all 128 (λ i. ltb (64 + 128 * (ptrs π v f - 1) + i) (len π v f) || eqb (pair v (ptr π v f (ptrs π v f - 1)) (slotAt i)) 0)) ≡ true
       go true q = refl
       go false q = all-of 128 _ (λ i l. one _ _ (λ k. h .clear (let z = eqb-false (ptrs π v f) 0 q in omega arith) i l (ltb-false (64 + 128 * (ptrs π v f - 1) + i) (len π v f) k)))
 
@@ -65,12 +66,12 @@ module _ (π : Partition) where
         → (0 < ptrs π v f → (w : ℕ) → 8 ≤ w → v (ptr π v f (ptrs π v f - 1)) w ≡ v′ (ptr π v f (ptrs π v f - 1)) w) → Links v f → Links v′ f
     links-same h g x = record {
       next = λ i l. let m = subst (λ (n : ℕ). i < n) (sym (kept-size π v v′ f k)) l in
-          ap (λ (b : ℕ). pair v′ b 4) (sym (kept-nth π v v′ f k i m)) ∙ sym (two i 4 m (omega arith) (omega arith)) ∙ x .next i m ∙ next-shape i;
+          ap (λ (b : ℕ). pair v′ b nextAt) (sym (kept-nth π v v′ f k i m)) ∙ sym (two i 4 m (omega arith) (omega arith)) ∙ x .next i m ∙ next-shape i;
       prev = λ i l. let m = subst (λ (n : ℕ). i < n) (sym (kept-size π v v′ f k)) l in
-          ap (λ (b : ℕ). pair v′ b 6) (sym (kept-nth π v v′ f k i m)) ∙ sym (two i 6 m (omega arith) (omega arith)) ∙ x .prev i m ∙ prev-shape i m;
+          ap (λ (b : ℕ). pair v′ b previousAt) (sym (kept-nth π v v′ f k i m)) ∙ sym (two i 6 m (omega arith) (omega arith)) ∙ x .prev i m ∙ prev-shape i m;
       clear = λ p i l m.
           let p₀ = subst (λ (n : ℕ). 0 < n) (sym (kept-ptrs π v v′ f k)) p in
-          ap (λ (b : ℕ). pair v′ b (8 + 2 * i)) (ap (λ (n : ℕ). ptr π v′ f (n - 1)) (sym (kept-ptrs π v v′ f k)) ∙ sym (kept-ptr π v v′ f k (ptrs π v f - 1)))
+          ap (λ (b : ℕ). pair v′ b (slotAt i)) (ap (λ (n : ℕ). ptr π v′ f (n - 1)) (sym (kept-ptrs π v v′ f k)) ∙ sym (kept-ptr π v v′ f k (ptrs π v f - 1)))
           ∙ sym (ap₂ (λ (y z : ℕ). y + 65536 * z) (g p₀ (8 + 2 * i) (omega arith)) (g p₀ (8 + 2 * i + 1) (omega arith)))
           ∙ x .clear p₀ i l (subst (λ (n : ℕ). len π v f ≤ 64 + 128 * (n - 1) + i) (sym (kept-ptrs π v v′ f k)) (subst (λ (n : ℕ). n ≤ 64 + 128 * (ptrs π v′ f - 1) + i) (sym (kept-len π v v′ f k)) m));
     }

@@ -14,7 +14,8 @@ use Rattle.volume.specs.Files.{Partition, blockAt, inside, candidate, nth, size
 use Rattle.volume.specs.Owned.{Own, own, member, member-owned, file-back, place-back}
 use Rattle.frame.specs.Soft.{cand-in}
 use Rattle.frame.specs.Sound.{sound-once, sound-within, sound-number}
-use Rattle.crash.specs.Sums.{sum, sum-add, sum-nil, sum-here}
+use Rattle.base.specs.Sums.{sum, sum-add, sum-nil, sum-here}
+use Rattle.volume.specs.Words.{numberFreeAt}
 use Rattle.crash.specs.FreeChain.{length-sum, in-range}
 use Rattle.crash.specs.Joined.{within-tab, length-tab, occ-none, occ-only}
 
@@ -133,7 +134,7 @@ module _ (π : Partition) (v : View) where
       ∙ sum-same (π.e - π.s) _ _ (λ i _. sym (needs-sum low (blockAt π i)))
 
   -- the free chain has the others
-  pub free-unowned : π.s < π.e → sound π v ≡ true → pair v π.s 12 ≡ count (π.e - π.s) (λ i. not (owned π v (blockAt π i)))
+  pub free-unowned : π.s < π.e → sound π v ≡ true → pair v π.s numberFreeAt ≡ count (π.e - π.s) (λ i. not (owned π v (blockAt π i)))
   free-unowned low ok =
       sound-number π v ok ∙ length-sum π (free π v) low (sound-within π v ok)
       ∙ sum-same (π.e - π.s) _ _ (λ i l. sound-once π v ok (suc (π.s + i)) (in-range π i l) ∙ flip (owned π v (suc (π.s + i))))
@@ -144,5 +145,5 @@ module _ (π : Partition) (v : View) where
       flip false = refl
 
   -- free and needed: m - 1
-  pub free-and-needed : π.s < π.e → sound π v ≡ true → pair v π.s 12 + needed π v ≡ π.e - π.s
+  pub free-and-needed : π.s < π.e → sound π v ≡ true → pair v π.s numberFreeAt + needed π v ≡ π.e - π.s
   free-and-needed low ok = omega (arith, free-unowned low ok, owned-needed low, count-both (π.e - π.s) (λ i. owned π v (blockAt π i)))

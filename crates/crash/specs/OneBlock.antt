@@ -11,6 +11,7 @@ use borrow.Author.Tests.{eqb-true, eqb-false, lt-ltb, le-ltb, lt-leb}
 use Rattle.base.specs.Tests.{pick, both}
 use Rattle.image.specs.View.{upd-same, upd-other, View, Rec, after, upd}
 use Rattle.image.specs.Saves.{withData, withText}
+use Rattle.volume.specs.Words.{relativeAt}
 use Rattle.volume.specs.Files.{Partition, ptrIndex, ptrSlot, inside, candidate, len, ptrs, ptr, name, wellFormed, fileOf, free, freeHead, sound}
 use Rattle.volume.specs.Frame.{SameHead, head-of, Shape, kept-wellFormed}
 use Rattle.volume.specs.Owned.{member, file-back, few-ptrs, nth-data, data-in, wf-of}
@@ -31,7 +32,7 @@ pub record One (π : Partition) (v : View) (f b : ℕ) (r : Rec) : Type 0 where
   pub head : SameHead (v b) r
   pub links : (w : ℕ) → 4 ≤ w → w < 8 → v b w ≡ r w
   pub fib : (w : ℕ) → 60 ≤ w → v f w ≡ upd v b r f w
-  pub off : (q : ℕ) → q < 32 → v b 2 ≢ 65532 - q
+  pub off : (q : ℕ) → q < 32 → v b relativeAt ≢ 65532 - q
   pub mine : Mine π v f b r
 
 module _ (π : Partition) (v : View) (ok : sound π v ≡ true) (f : ℕ) (cf : candidate π v f ≡ true) where
@@ -53,7 +54,7 @@ module _ (π : Partition) (v : View) (ok : sound π v ≡ true) (f : ℕ) (cf : 
         go false q = head-of refl
 
     ptr≢b : (q : ℕ) → q < ptrs π v f → ptr π v f q ≢ b
-    ptr≢b q l z = o .off q (omega (arith, few-ptrs π v f cf wf)) (ap (λ (x : ℕ). v x 2) (sym z) ∙ ptr-rel π v ok f cf q l)
+    ptr≢b q l z = o .off q (omega (arith, few-ptrs π v f cf wf)) (ap (λ (x : ℕ). v x relativeAt) (sym z) ∙ ptr-rel π v ok f cf q l)
 
     pub one-shape : Shape π v (upd v b r) f
     one-shape = record {
@@ -123,7 +124,7 @@ module _ (π : Partition) (v : View) (ok : sound π v ≡ true) (f : ℕ) (cf : 
         })
         (agree-clean π v (upd v b r) c al)
         (λ h k. let c₀ = al .cands h ∙ k in links-same π v (upd v b r) h (al .shape h c₀) (λ i w _ l m. link _ w l m)
-        (λ q w _. ap (λ (y : Rec). y w) (sym (upd-other v b r _ (λ z. o .off (ptrs π v h - 1) (omega (arith, few-ptrs π v h c₀ (c h c₀))) (ap (λ (y : ℕ). v y 2) (sym z) ∙ ptr-rel π v ok h c₀ (ptrs π v h - 1) (omega arith))))))
+        (λ q w _. ap (λ (y : Rec). y w) (sym (upd-other v b r _ (λ z. o .off (ptrs π v h - 1) (omega (arith, few-ptrs π v h c₀ (c h c₀))) (ap (λ (y : ℕ). v y relativeAt) (sym z) ∙ ptr-rel π v ok h c₀ (ptrs π v h - 1) (omega arith))))))
         (links-of π v h (sound-linked π v ok h c₀)))
 
   -- ---- the two calls
@@ -157,7 +158,7 @@ module _ (π : Partition) (v : View) (ok : sound π v ≡ true) (f : ℕ) (cf : 
     inn = subst (λ (x : ℕ). inside π x ≡ true) (nth-data π v f i) (member π v f cf wf (ptrs π v f + suc i) (data-in π v f i l) .ins);
     head = record { low = refl; high = refl; rel = refl };
     links = λ w m n. sym (ap (λ (t : Bool). pick t (v b w) (dat (w - 8))) (lt-ltb w 8 n));
-    fib = λ w m. sym (ap (λ (x : Rec). x w) (upd-other v b (withData dat (v (name π v f i))) f (λ z. omega (arith, data-rel π v ok f cf i l, cand-rel π v f cf, ap (λ (x : ℕ). v x 2) z, short))));
+    fib = λ w m. sym (ap (λ (x : Rec). x w) (upd-other v b (withData dat (v (name π v f i))) f (λ z. omega (arith, data-rel π v ok f cf i l, cand-rel π v f cf, ap (λ (x : ℕ). v x relativeAt) z, short))));
     off = λ q m z. omega (arith, data-rel π v ok f cf i l, short);
     mine = λ _. inr ((λ _. file-name), λ n. headed-rel π b (withData dat (v (name π v f i))) (λ z. omega (arith, data-rel π v ok f cf i l, short)));
   }

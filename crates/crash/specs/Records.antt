@@ -9,6 +9,7 @@ use borrow.Author.Tests.{ltb-true, eq-eqb, ne-eqb}
 use Rattle.base.specs.Tests.{pick}
 use Rattle.drive.specs.Address.{pda, lda}
 use Rattle.image.specs.View.{View, Rec, put, put2, blank}
+use Rattle.volume.specs.Words.{fillerAt}
 use Rattle.volume.specs.Plans.{freshFib, newFirst, put2If, grownFib, asFiller}
 
 -- a pair put and read
@@ -51,7 +52,7 @@ module _ (d : ℕ) (v : View) (h kind : ℕ) where
 -- ---- the new first free block: links and filler alone
 pub first-links : (d : ℕ) (v : View) (g w : ℕ) → w ≢ 3 → w ≢ 6 → w ≢ 7 → newFirst d v g w ≡ v g w
 unfolding newFirst
-first-links d v g w n3 n6 n7 = put2-off 6 0 (put 3 (asFiller g) (v g)) w n6 n7 ∙ put-off 3 (asFiller g) (v g) w n3
+first-links d v g w n3 n6 n7 = put2-off 6 0 (put fillerAt (asFiller g) (v g)) w n6 n7 ∙ put-off 3 (asFiller g) (v g) w n3
 
 -- ---- a grown FIB by its parts: links and description, direct entries, indirect ones, the ends
 

@@ -21,7 +21,7 @@ use Rattle.base.specs.declared.Refusal.the-variants.{BadBlock, Full, NoCandidat
 use Rattle.volume.specs.Calls.{Planned, refuse, finish, createIn, appendIn, writeIn, describeIn, destroyIn, repairIn, room}
 use Rattle.frame.specs.Repair.{repaired-quiet}
 use Rattle.frame.specs.Mended.{sound-is}
-use Rattle.crash.specs.Fitting.{Words}
+use Rattle.frame.specs.Fitting.{Words}
 use Rattle.crash.specs.Lawful.{Placed, Lawful, create-lawful, describe-lawful, replace-lawful, destroy-lawful, repair-lawful}
 use Rattle.crash.specs.Create.{create-good, create-sound}
 use Rattle.crash.specs.OneBlock.{describe-good, describe-sound, replace-good, replace-sound}

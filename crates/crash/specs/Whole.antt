@@ -17,6 +17,7 @@ use Rattle.volume.specs.Frame.{kept-nth, kept-size, kept-wellFormed}
 use Rattle.volume.specs.Owned.{own, member-owned, file-back, owned-not-pib}
 use Rattle.volume.specs.Agree.{Clean, Agree, alike, agree-clean, agree-owned}
 use lib.ListN.{length-append}
+use Rattle.volume.specs.Words.{freeHeadAt, nextAt, numberFreeAt, previousAt}
 use Rattle.frame.specs.Turn.{Each, each-map, after-miss, after-append, Turn, turn-clean}
 use Rattle.frame.specs.Sound.{spare-block, occ-here, occ-more, sound-clean, sound-linked, sound-once, sound-within, sound-chained, sound-tail, sound-number}
 use Rattle.crash.specs.Cut.{Decides, whole-agrees}
@@ -46,7 +47,7 @@ chained-right π v x [] m h = h
 chained-right π v x (y ∷ l) m h = chained-right π v y l m (both-right _ _ (both-right _ _ h))
 
 -- the same links, the same chain
-pub chained-same : (π : Partition) (v v′ : View) (x : ℕ) (l : List ℕ) → ((b : ℕ) → 0 < occ b l → (pair v b 4 ≡ pair v′ b 4) × (pair v b 6 ≡ pair v′ b 6)) → chained π v x l ≡ true → chained π v′ x l ≡ true
+pub chained-same : (π : Partition) (v v′ : View) (x : ℕ) (l : List ℕ) → ((b : ℕ) → 0 < occ b l → (pair v b nextAt ≡ pair v′ b nextAt) × (pair v b previousAt ≡ pair v′ b previousAt)) → chained π v x l ≡ true → chained π v′ x l ≡ true
 unfolding chained
 chained-same π v v′ x [] h k = refl
 chained-same π v v′ x (y ∷ l) h k =
@@ -124,8 +125,8 @@ module _ (π : Partition) (v : View) (ok : sound π v ≡ true) (W : View) (T : 
   counted : (b : ℕ) → occ b (free π v) ≡ occ b T + occ b (g ∷ l)
   counted b = ap (occ b) fr ∙ occ-append b T (g ∷ l)
 
-  pub taken-free : (prev : pair W g 6 ≡ 0) (next : pair W g 4 ≡ pair v g 4) (else : (b : ℕ) → 0 < occ b l → v b ≡ W b)
-      (pib : W π.s ≡ put2 8 (lda π.drive g) (put2 12 (pair v π.s 12 - length T) (v π.s)))
+  pub taken-free : (prev : pair W g previousAt ≡ 0) (next : pair W g nextAt ≡ pair v g nextAt) (else : (b : ℕ) → 0 < occ b l → v b ≡ W b)
+      (pib : W π.s ≡ put2 freeHeadAt (lda π.drive g) (put2 numberFreeAt (pair v π.s numberFreeAt - length T) (v π.s)))
       (own-in : (b : ℕ) → 0 < occ b T → owned π W b ≡ true) (own-out : (b : ℕ) → inside π b ≡ true → occ b T ≡ 0 → owned π W b ≡ owned π v b)
       → IsFree π W (g ∷ l)
   unfolding chained headOf put put2
@@ -136,7 +137,7 @@ module _ (π : Partition) (v : View) (ok : sound π v ≡ true) (W : View) (T : 
     once = λ b n. go b n (eqb (occ b T) 0) refl;
     head = ap (λ (r : Rec). r 8 + 65536 * r 9) pib ∙ word (lda π.drive g);
     tail = ap (λ (r : Rec). r 10 + 65536 * r 11) pib ∙ sound-tail π v ok ∙ ap (lda π.drive) (ap (lastOf 0) fr ∙ last-append 0 0 T g l);
-    number = ap (λ (r : Rec). r 12 + 65536 * r 13) pib ∙ word (pair v π.s 12 - length T) ∙ omega (arith, sound-number π v ok, ap length fr, length-append T (g ∷ l));
+    number = ap (λ (r : Rec). r 12 + 65536 * r 13) pib ∙ word (pair v π.s numberFreeAt - length T) ∙ omega (arith, sound-number π v ok, ap length fr, length-append T (g ∷ l));
     some = omega arith;
   }
     where

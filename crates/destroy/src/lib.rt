@@ -22,7 +22,7 @@ fn destroy_open(img: &mut [u8], drive: usize, s: usize, e: usize, f: usize, limi
     let last = inspect::nth(img, drive, s, e, f, p, k, p + k);
     let tail = change::free::tail(img, drive, s, e);
     let h = change::free::head(img, drive, s, e);
-    let n = records::destroy::destroy_store(img, drive, s, f, p, k, top, last, tail, h, limit);
+    let n = erase::destroy_store(img, drive, s, f, p, k, top, last, tail, h, limit);
     change::done(0, n)
 }
 

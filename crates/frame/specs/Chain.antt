@@ -14,6 +14,7 @@ use Rattle.drive.specs.Address.{pda, pdaBlock, lda, ldaBlock}
 use Rattle.drive.specs.Laws.{pda-back, pda-pos}
 use Rattle.image.specs.View.{upd-same, upd-other, View, Rec, pair}
 use Rattle.base.specs.Laws.{pick-same, both-of}
+use Rattle.volume.specs.Words.{nextAt, previousAt}
 use Rattle.volume.specs.Files.{Partition, isLda, blockAt, ptrIndex, ptrSlot, chain, chained, orNil, within, inside}
 
 module _ (P : ℕ → Bool) where
@@ -108,19 +109,19 @@ module _ (P : ℕ → Bool) where
   module _ (π : Partition) (u : View) where
     -- each block that passes points to the next that does
     abbrev pub Next : ℕ → ℕ → Type 0
-    Next i k = (b : ℕ) → i ≤ b → b < i + k → P b ≡ true → pair u b 4 ≡ orNil π (headOf 0 (those (suc b) (i + k - suc b) P))
+    Next i k = (b : ℕ) → i ≤ b → b < i + k → P b ≡ true → pair u b nextAt ≡ orNil π (headOf 0 (those (suc b) (i + k - suc b) P))
 
     next-down : (i k : ℕ) → Next i (suc k) → Next (suc i) k
     next-down i k h b l m q = h b (omega arith) (omega arith) q ∙ ap (λ (y : ℕ). orNil π (headOf 0 (those (suc b) y P))) (let w : i + suc k - suc b ≡ suc i + k - suc b = omega arith in w)
 
-    pub chain-end : (fuel b : ℕ) → pair u b 4 ≡ 0 → chain π u (suc fuel) b ≡ b ∷ []
+    pub chain-end : (fuel b : ℕ) → pair u b nextAt ≡ 0 → chain π u (suc fuel) b ≡ b ∷ []
     unfolding chain
-    chain-end fuel b q = ap (λ (t : Bool). let r : List ℕ = elim t [ true ↦ [] | false ↦ chain π u fuel (pdaBlock (π .drive) (pair u b 4)) ] in b ∷ r) (eq-eqb _ _ q)
+    chain-end fuel b q = ap (λ (t : Bool). let r : List ℕ = elim t [ true ↦ [] | false ↦ chain π u fuel (pdaBlock (π .drive) (pair u b nextAt)) ] in b ∷ r) (eq-eqb _ _ q)
 
-    pub chain-on : (fuel b c : ℕ) → pair u b 4 ≡ pda (π .drive) c → chain π u (suc fuel) b ≡ b ∷ chain π u fuel c
+    pub chain-on : (fuel b c : ℕ) → pair u b nextAt ≡ pda (π .drive) c → chain π u (suc fuel) b ≡ b ∷ chain π u fuel c
     unfolding chain
     chain-on fuel b c q =
-        ap (λ (t : Bool). let r : List ℕ = elim t [ true ↦ [] | false ↦ chain π u fuel (pdaBlock (π .drive) (pair u b 4)) ] in b ∷ r) (ne-eqb (pair u b 4) 0 (λ z. omega (arith, pda-pos (π .drive) c, q)))
+        ap (λ (t : Bool). let r : List ℕ = elim t [ true ↦ [] | false ↦ chain π u fuel (pdaBlock (π .drive) (pair u b nextAt)) ] in b ∷ r) (ne-eqb (pair u b nextAt) 0 (λ z. omega (arith, pda-pos (π .drive) c, q)))
         ∙ ap (λ (x : ℕ). b ∷ chain π u fuel (pdaBlock (π .drive) x)) q ∙ ap (λ (x : ℕ). b ∷ chain π u fuel x) (pda-back (π .drive) c)
 
     pub walk : (i k fuel : ℕ) → 0 < i → k ≤ fuel → Next i k → those i k P ≢ [] → chain π u fuel (headOf 0 (those i k P)) ≡ those i k P
@@ -136,7 +137,7 @@ module _ (P : ℕ → Bool) where
             → chain π u (suc fuel) (headOf 0 (pick t (i ∷ R) R)) ≡ pick t (i ∷ R) R
         go true q ne ih ih′ = on (eqb (headOf 0 R) 0) refl
           where
-            hx : pair u i 4 ≡ orNil π (headOf 0 R)
+            hx : pair u i nextAt ≡ orNil π (headOf 0 R)
             hx = h i (omega arith) (omega arith) q ∙ ap (λ (y : ℕ). orNil π (headOf 0 (those (suc i) y P))) (let w : i + suc k - suc i ≡ k = omega arith in w)
 
             on : (z : Bool) → eqb (headOf 0 R) 0 ≡ z → chain π u (suc fuel) i ≡ i ∷ R
@@ -149,7 +150,7 @@ module _ (P : ℕ → Bool) where
         go false q ne ih ih′ = ih′ ne
 
     abbrev pub Prev : ℕ → ℕ → ℕ → Type 0
-    Prev before i k = (b : ℕ) → i ≤ b → b < i + k → P b ≡ true → pair u b 6 ≡ orNil π (lastOf before (those i (b - i) P))
+    Prev before i k = (b : ℕ) → i ≤ b → b < i + k → P b ≡ true → pair u b previousAt ≡ orNil π (lastOf before (those i (b - i) P))
 
     pub chained-those : (before i k : ℕ) → Next i k → Prev before i k → chained π u before (those i k P) ≡ true
     unfolding those chained lastOf

@@ -5,3 +5,4 @@ pub mod Turn
 pub mod Repair
 pub mod Restart
 pub mod Mended
+pub mod Fitting

@@ -19,6 +19,7 @@ use Rattle.volume.specs.Owned.{Own, own, owned-by, member, member-owned, file-b
 use Rattle.volume.specs.Agree.{Clean, Alike, Agree, alike, agree-file, agree-files, agree-clean, agree-owned, agree-unowned, agree-place, agree-fileOf, agree-head}
 use lib.Seq.{take-length}
 use native.Mathlib.Nat.{le-refl}
+use Rattle.volume.specs.Words.{nextAt, previousAt, slotAt}
 use Rattle.volume.specs.Plans.{trimmed, repairStores, repairedPib, st, freshFib, newFirst, pibLess, content, relinked, freed, repaired}
 use Rattle.frame.specs.Soft.{headed, headed-is, headed-same, headed-rel, headed-zero, cand-in, cand-rel, cand-serial, spare, Soft, Quiet, soft-refl, soft-links, spare-at, ptr-of, soft-kept, soft-agree}
 use Rattle.frame.specs.Repair.{links-off, Mid, mid-agree, repaired-mine, repaired-free, content-cut}
@@ -56,7 +57,7 @@ module _ (π : Partition) (v : View) (c : Clean π v) where
   P : ℕ → Bool
   P b = not (owned π v b)
 
-  free-next : (b : ℕ) → (π .s) < b → b ≤ (π .e) → P b ≡ true → pair mended b 4 ≡ orNil π (above b (unowned π v))
+  free-next : (b : ℕ) → (π .s) < b → b ≤ (π .e) → P b ≡ true → pair mended b nextAt ≡ orNil π (above b (unowned π v))
   unfolding freed P put put2
   free-next b l m q =
       ap (λ (r : Rec). r 4 + 65536 * r 5) (mended-at b l m ∙ repaired-free π v (unowned π v) b (off (owned π v b) q))
@@ -66,7 +67,7 @@ module _ (π : Partition) (v : View) (c : Clean π v) where
       off true z = sym z
       off false z = refl
 
-  free-prev : (b : ℕ) → (π .s) < b → b ≤ (π .e) → P b ≡ true → pair mended b 6 ≡ orNil π (below b (unowned π v))
+  free-prev : (b : ℕ) → (π .s) < b → b ≤ (π .e) → P b ≡ true → pair mended b previousAt ≡ orNil π (below b (unowned π v))
   unfolding freed P put put2
   free-prev b l m q =
       ap (λ (r : Rec). r 6 + 65536 * r 7) (mended-at b l m ∙ repaired-free π v (unowned π v) b (off (owned π v b) q))
@@ -110,14 +111,14 @@ module _ (π : Partition) (v : View) (c : Clean π v) where
           let n = owned-in π v (nth π mended f i) ob in
           mended-at _ (ltb-true _ _ (both-left _ _ n)) (leb-true _ _ (both-right _ _ n)) ∙ repaired-mine π v _ _ ob
 
-      link-next : pair mended (nth π mended f i) 4 ≡ nextOf π mended f i
+      link-next : pair mended (nth π mended f i) nextAt ≡ nextOf π mended f i
       unfolding relinked put put2
       link-next =
           ap (λ (r : Rec). r 4 + 65536 * r 5) rec-is ∙ word _
           ∙ next-same π v c mended (part .blocks) (nth π mended f i) ob
           ∙ ap₂ (λ (g j : ℕ). nextOf π mended g j) (file-back π mended f cf (clean f cf) i l) (place-back π mended f cf (clean f cf) i l)
 
-      link-prev : pair mended (nth π mended f i) 6 ≡ prevOf π mended f i
+      link-prev : pair mended (nth π mended f i) previousAt ≡ prevOf π mended f i
       unfolding relinked put put2
       link-prev =
           ap (λ (r : Rec). r 6 + 65536 * r 7) rec-is ∙ word _
@@ -158,14 +159,14 @@ module _ (π : Partition) (v : View) (c : Clean π v) where
         last : ℕ
         last = ptr π mended f (ptrs π mended f - 1)
 
-        one : (i : ℕ) → 0 < ptrs π mended f → (t : Bool) → ltb (64 + 128 * (ptrs π mended f - 1) + i) (len π mended f) ≡ t → (t || eqb (pair mended last (8 + 2 * i)) 0) ≡ true
+        one : (i : ℕ) → 0 < ptrs π mended f → (t : Bool) → ltb (64 + 128 * (ptrs π mended f - 1) + i) (len π mended f) ≡ t → (t || eqb (pair mended last (slotAt i)) 0) ≡ true
         one i p true q = refl
         one i p false q =
             let m = ltb-false (64 + 128 * (ptrs π mended f - 1) + i) (len π mended f) q in
             eq-eqb _ _ (ap₂ (λ (x y : ℕ). x + 65536 * y) (zero-word (8 + 2 * i) (omega arith) p (omega arith)) (zero-word (8 + 2 * i + 1) (omega arith) p (omega arith)))
 
         go : (t : Bool) → eqb (ptrs π mended f) 0 ≡ t
-            → (t || all 128 (λ i. ltb (64 + 128 * (ptrs π mended f - 1) + i) (len π mended f) || eqb (pair mended last (8 + 2 * i)) 0)) ≡ true
+            → (t || all 128 (λ i. ltb (64 + 128 * (ptrs π mended f - 1) + i) (len π mended f) || eqb (pair mended last (slotAt i)) 0)) ≡ true
         go true q = refl
         go false q = all-of 128 _ (λ i l. one i (omega (arith, eqb-false (ptrs π mended f) 0 q)) _ refl)
 

@@ -13,6 +13,7 @@ use Rattle.drive.specs.Address.{pda, pdaBlock, lda, ldaBlock}
 use Rattle.drive.specs.Laws.{pda-back, lda-back, pda-pos}
 use Rattle.image.specs.View.{upd-same, upd-other, View, Rec, Store, after, upd, pair, put, put2}
 use Rattle.base.specs.Laws.{cons-same, and-left, and-right, and-both, all-at, all-of, all-same, pick-same, every-at, both-left, both-right, both-of, iff-eq}
+use Rattle.volume.specs.Words.{nextAt, previousAt}
 use Rattle.volume.specs.Files.{unowned, Partition, isLda, blockAt, ptrIndex, ptrSlot, inside, serial, candidate, len, ptrsFor, ptrs, indirect, ptr, entry, name, names, nth, size, wellFormed, isFile, placeOf, place, fileOf, owned, files, nextOf, prevOf, orNil, free, freeHead, chain, chained, linked, sound, within}
 use Rattle.volume.specs.Frame.{SameHead, same-serial, head-of, head-trans, Shape, Kept, kept-len, kept-ptrs, kept-ptr, kept-indirect, kept-entry, kept-nth, kept-size, kept-name, kept-head, kept-wellFormed}
 use Rattle.volume.specs.Owned.{Own, own, owned-by, member, member-owned, file-back, place-back, few-ptrs, Member, nth-fib, nth-ptr, nth-data, ptr-in, fib-in, data-in, owned-in, owned-not-pib}
@@ -24,7 +25,7 @@ pub trimmed-low : (k : ℕ) (r : Rec) (w : ℕ) → w < 8 → trimmed k r w ≡ 
 unfolding trimmed both
 trimmed-low k r w h = ap (λ (t : Bool). pick (both t (leb k (64 + 128 * (ptrsFor k - 1) + (w - 8) / 2))) 0 (r w)) (lt-leb 8 w h)
 
-pub links-off : (x y : ℕ) (r : Rec) (w : ℕ) → 8 ≤ w → put2 4 x (put2 6 y r) w ≡ r w
+pub links-off : (x y : ℕ) (r : Rec) (w : ℕ) → 8 ≤ w → put2 nextAt x (put2 previousAt y r) w ≡ r w
 unfolding put put2
 links-off x y r w h = simp (ne-eqb w 4 (λ p. omega arith), ne-eqb w 5 (λ p. omega arith), ne-eqb w 6 (λ p. omega arith), ne-eqb w 7 (λ p. omega arith))
 

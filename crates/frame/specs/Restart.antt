@@ -13,6 +13,7 @@ use Rattle.drive.specs.Address.{pda, pdaBlock, lda, ldaBlock}
 use Rattle.drive.specs.Laws.{pda-back, lda-back, pda-pos}
 use Rattle.image.specs.View.{upd-same, upd-other, View, Rec, Store, after, upd, pair, put, put2}
 use Rattle.base.specs.Laws.{cons-same, and-left, and-right, and-both, all-at, all-of, all-same, pick-same, every-at, both-left, both-right, both-of, iff-eq}
+use Rattle.volume.specs.Words.{nextAt, previousAt}
 use Rattle.volume.specs.Files.{unowned, Partition, isLda, blockAt, ptrIndex, ptrSlot, inside, serial, candidate, len, ptrsFor, ptrs, indirect, ptr, entry, name, names, nth, size, wellFormed, isFile, placeOf, place, fileOf, owned, files, nextOf, prevOf, orNil, free, freeHead, chain, chained, linked, sound, within}
 use Rattle.volume.specs.Frame.{SameHead, same-serial, head-of, head-trans, Shape, Kept, kept-len, kept-ptrs, kept-ptr, kept-indirect, kept-entry, kept-nth, kept-size, kept-name, kept-head, kept-wellFormed}
 use Rattle.volume.specs.Owned.{Own, own, owned-by, member, member-owned, file-back, place-back, few-ptrs, Member, nth-fib, nth-ptr, nth-data, ptr-in, fib-in, data-in, owned-in, owned-not-pib}
@@ -57,7 +58,7 @@ of-tab R S i (suc k) h = (h i (omega arith), of-tab R S (suc i) k (λ b l. h b (
 
 -- ---- the records of repairStores are the same in a view that is partly repaired
 
-cover : (N M : ℕ) (r r′ : Rec) → ((w : ℕ) → w ≢ 4 → w ≢ 5 → w ≢ 6 → w ≢ 7 → r w ≡ r′ w) → put2 4 N (put2 6 M r) ≡ put2 4 N (put2 6 M r′)
+cover : (N M : ℕ) (r r′ : Rec) → ((w : ℕ) → w ≢ 4 → w ≢ 5 → w ≢ 6 → w ≢ 7 → r w ≡ r′ w) → put2 nextAt N (put2 previousAt M r) ≡ put2 nextAt N (put2 previousAt M r′)
 unfolding put put2
 cover N M r r′ h = fun-ext (λ w.
     pick-same (eqb w 4) (λ _. refl) (λ n4. pick-same (eqb w 5) (λ _. refl) (λ n5. pick-same (eqb w 6) (λ _. refl) (λ n6. pick-same (eqb w 7) (λ _. refl) (λ n7.
@@ -131,7 +132,7 @@ module _ (π : Partition) (v : View) (c : Clean π v) (v′ : View) (m : Mid π 
         t : Bool
         t = both (eqb (place π v b) 0) (ltb 0 (ptrs π v (fileOf π v b)))
 
-        off : put2 4 (nextOf π v (fileOf π v b) (place π v b)) (put2 6 (prevOf π v (fileOf π v b) (place π v b)) (content π v b)) w ≡ content π v b w
+        off : put2 nextAt (nextOf π v (fileOf π v b) (place π v b)) (put2 previousAt (prevOf π v (fileOf π v b) (place π v b)) (content π v b)) w ≡ content π v b w
         off = simp (ne-eqb w 4 n4, ne-eqb w 5 n5, ne-eqb w 6 n6, ne-eqb w 7 n7)
 
         twice : (u : Bool) → v′ b w ≡ pick u (trimmed k (v b)) (v b) w → pick u (trimmed k (v b)) (v b) w ≡ pick u (trimmed k (v′ b)) (v′ b) w
@@ -146,7 +147,7 @@ module _ (π : Partition) (v : View) (c : Clean π v) (v′ : View) (m : Mid π 
     unfolding relinked
     mine-same =
         cover _ _ (content π v b) (content π v′ b) content-same
-        ∙ ap₂ (λ (x y : ℕ). put2 4 x (put2 6 y (content π v′ b))) next-same prev-same
+        ∙ ap₂ (λ (x y : ℕ). put2 nextAt x (put2 previousAt y (content π v′ b))) next-same prev-same
 
   pub repaired-same : (b : ℕ) → b ≢ (π .s) → repaired π v (unowned π v) b ≡ repaired π v′ (unowned π v′) b
   repaired-same b ne = go (owned π v b) refl

@@ -14,6 +14,7 @@ use Rattle.drive.specs.Address.{pda, pdaBlock, lda, ldaBlock}
 use Rattle.drive.specs.Laws.{pda-back, lda-back, pda-pos}
 use Rattle.image.specs.View.{upd-same, upd-other, View, Rec, Store, after, upd, pair, put, put2}
 use Rattle.base.specs.Laws.{cons-same, and-left, and-right, and-both, all-at, all-of, all-same, pick-same, every-at, both-left, both-right, both-of, iff-eq}
+use Rattle.volume.specs.Words.{relativeAt, serialAt}
 use Rattle.volume.specs.Files.{Partition, isLda, blockAt, ptrIndex, ptrSlot, inside, serial, candidate, len, ptrsFor, ptrs, indirect, ptr, entry, name, names, nth, size, wellFormed, isFile, placeOf, place, fileOf, owned, files, nextOf, prevOf, orNil, free, freeHead, chain, chained, linked, sound, within}
 use Rattle.volume.specs.Frame.{SameHead, same-serial, head-of, head-trans, Shape, Kept, kept-len, kept-ptrs, kept-ptr, kept-indirect, kept-entry, kept-nth, kept-size, kept-name, kept-head, kept-wellFormed}
 use Rattle.volume.specs.Owned.{Own, own, owned-by, member, member-owned, file-back, place-back, few-ptrs, Member, nth-fib, nth-ptr, nth-data, ptr-in, fib-in, data-in, owned-in, owned-not-pib}
@@ -54,11 +55,11 @@ module _ (π : Partition) where
   unfolding candidate
   cand-in v f h = every-at _ h 0
 
-  pub cand-rel : (v : View) (f : ℕ) → candidate π v f ≡ true → v f 2 ≡ 65535
+  pub cand-rel : (v : View) (f : ℕ) → candidate π v f ≡ true → v f relativeAt ≡ 65535
   unfolding candidate
   cand-rel v f h = eqb-true _ _ (every-at _ h 2)
 
-  pub cand-serial : (v : View) (f : ℕ) → candidate π v f ≡ true → pair v f 0 ≡ pda (π .drive) f
+  pub cand-serial : (v : View) (f : ℕ) → candidate π v f ≡ true → pair v f serialAt ≡ pda (π .drive) f
   unfolding candidate
   cand-serial v f h = eqb-true _ _ (every-at _ h 1)
 

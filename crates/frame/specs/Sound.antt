@@ -13,6 +13,7 @@ use Rattle.drive.specs.Address.{pda, pdaBlock, lda, ldaBlock}
 use Rattle.drive.specs.Laws.{pda-back, lda-back, pda-pos}
 use Rattle.image.specs.View.{upd-same, upd-other, View, Rec, Store, after, upd, pair, put, put2}
 use Rattle.base.specs.Laws.{cons-same, and-left, and-right, and-both, all-at, all-of, all-same, pick-same, every-at, both-left, both-right, both-of, iff-eq}
+use Rattle.volume.specs.Words.{freeHeadAt, freeTailAt, nextAt, numberFreeAt}
 use Rattle.volume.specs.Files.{unowned, Partition, isLda, blockAt, ptrIndex, ptrSlot, inside, serial, candidate, len, ptrsFor, ptrs, indirect, ptr, entry, name, names, nth, size, wellFormed, isFile, placeOf, place, fileOf, owned, files, nextOf, prevOf, orNil, free, freeHead, chain, chained, linked, sound, freeSound, within}
 use Rattle.volume.specs.Frame.{SameHead, same-serial, head-of, head-trans, Shape, Kept, kept-len, kept-ptrs, kept-ptr, kept-indirect, kept-entry, kept-nth, kept-size, kept-name, kept-head, kept-wellFormed}
 use Rattle.volume.specs.Owned.{Own, own, owned-by, member, member-owned, file-back, place-back, few-ptrs, Member, nth-fib, nth-ptr, nth-data, ptr-in, fib-in, data-in, owned-in, owned-not-pib}
@@ -49,7 +50,7 @@ within-occ π (y ∷ l) x h p = go (eqb x y) refl p (within-occ π l x (both-rig
 
 module _ (π : Partition) (v : View) where
   abbrev pub after₁ : ℕ → ℕ
-  after₁ b = pdaBlock (π .drive) (pair v b 4)
+  after₁ b = pdaBlock (π .drive) (pair v b nextAt)
 
   -- b and the next blocks by the links, n in all
   abbrev pub firsts : ℕ → ℕ → List ℕ
@@ -60,7 +61,7 @@ module _ (π : Partition) (v : View) where
   unfolding chain
   chain-firsts zero k b h = record { rest = chain π v k b; is = refl }
   chain-firsts (suc n) zero b h = absurd (omega arith)
-  chain-firsts (suc n) (suc k) b h = go (eqb (pair v b 4) 0) (λ l. chain-firsts n k (after₁ b) l) h
+  chain-firsts (suc n) (suc k) b h = go (eqb (pair v b nextAt) 0) (λ l. chain-firsts n k (after₁ b) l) h
     where
       go : (t : Bool) → (n ≤ length (chain π v k (after₁ b)) → Starts (firsts n (after₁ b)) (chain π v k (after₁ b)))
           → suc n ≤ length (b ∷ elim t [ true ↦ [] | false ↦ chain π v k (after₁ b) ])
@@ -142,15 +143,15 @@ module _ (π : Partition) (v : View) (ok : sound π v ≡ true) where
   unfolding sound freeSound
   sound-chained = every-at _ (both-right _ _ ok) 2
 
-  pub sound-head : pair v (π .s) 8 ≡ lda (π .drive) (headOf 0 (free π v))
+  pub sound-head : pair v (π .s) freeHeadAt ≡ lda (π .drive) (headOf 0 (free π v))
   unfolding sound freeSound
   sound-head = eqb-true _ _ (every-at _ (both-right _ _ ok) 3)
 
-  pub sound-tail : pair v (π .s) 10 ≡ lda (π .drive) (lastOf 0 (free π v))
+  pub sound-tail : pair v (π .s) freeTailAt ≡ lda (π .drive) (lastOf 0 (free π v))
   unfolding sound freeSound
   sound-tail = eqb-true _ _ (every-at _ (both-right _ _ ok) 4)
 
-  pub sound-number : pair v (π .s) 12 ≡ length (free π v)
+  pub sound-number : pair v (π .s) numberFreeAt ≡ length (free π v)
   unfolding sound freeSound
   sound-number = eqb-true _ _ (every-at _ (both-right _ _ ok) 5)
 
@@ -174,11 +175,11 @@ module _ (π : Partition) (v : View) (ok : sound π v ≡ true) where
   last-in : 0 < occ (lastOf 0 (free π v)) (free π v)
   last-in = last-occ 0 (free π v) (sound-some π v ok)
 
-  pub tail-is : (ldaBlock (π .drive)) (pair v (π .s) 10) ≡ lastOf 0 (free π v)
+  pub tail-is : (ldaBlock (π .drive)) (pair v (π .s) freeTailAt) ≡ lastOf 0 (free π v)
   unfolding sound freeSound inside
   tail-is = ap (ldaBlock (π .drive)) (eqb-true _ _ (every-at _ (both-right _ _ ok) 4)) ∙ lda-back (π .drive) (lastOf 0 (free π v))
 
-  pub tail-free : 0 < occ ((ldaBlock (π .drive)) (pair v (π .s) 10)) (free π v)
+  pub tail-free : 0 < occ ((ldaBlock (π .drive)) (pair v (π .s) freeTailAt)) (free π v)
   tail-free = subst (λ (x : ℕ). 0 < occ x (free π v)) (sym tail-is) last-in
 
 -- an unowned block of the partition: there is something to chain

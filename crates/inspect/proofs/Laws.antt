@@ -1,21 +1,25 @@
 -- What the tests of the index give, and the ways through the code that makes them. Assumes nothing.
 use mathlib.Core.Path.{_≡_, refl, sym, ap, _∙_}
+use mathlib.Core.Logic.{⊎-elim}
 use mathlib.Core.List.{List, [], _∷_}
-use mathlib.Core.Bool.{Bool, true, false}
+use mathlib.Core.Bool.{Bool, true, false, _&&_}
 use Prim.Native.Nat.{ℕ, suc, _+_, _-_, _*_, _/_, _≤_, _<_}
+use native.Mathlib.Nat.{eq-or-lt-of-le}
+use native.Mathlib.Numerals.{add-one}
 use native.Mathlib.Omega.{arith}
 use lib.Dec.{ltb, leb, eqb}
 use lib.IntN.{ℤ}
 use lib.ListN.{length}
-use borrow.Author.Tests.{leb-true, ltb-true, lt-ltb, le-ltb, eq-eqb, ne-eqb}
-use Rattle.base.specs.Tests.{pick, every}
-use Rattle.base.specs.Laws.{all-at, both-left, both-right, every-at}
+use borrow.Author.Needs.{needs}
+use borrow.Author.Tests.{leb-true, ltb-true, lt-ltb, le-ltb, eq-eqb, ne-eqb, eqb-true, eqb-false}
+use Rattle.base.specs.Tests.{pick, every, all}
+use Rattle.base.specs.Laws.{all-at, all-of, both-left, both-right, every-at}
 use Rattle.drive.specs.Address.{ldaBlock}
-use Rattle.image.specs.View.{View}
+use Rattle.image.specs.View.{View, pair}
 use Rattle.image.specs.Image.{view}
 use Rattle.image.specs.Signed.{signed}
-use Rattle.volume.specs.Words.{dataOffset, fibNumber}
-use Rattle.volume.specs.Files.{Partition, partitionOf, reach, ptrsFor, ptr, entry, name, len, ptrs, nth, candidate, wellFormed, ptrTest, dataTest, indexed, restNil, numbered}
+use Rattle.volume.specs.Words.{dataOffset, fibNumber, lastBlockAt}
+use Rattle.volume.specs.Files.{Partition, partitionOf, reach, ptrsFor, ptr, entry, name, len, ptrs, nth, candidate, wellFormed, ptrTest, dataTest, indexed, nilTest, restNil, numbered}
 use Rattle.volume.specs.Answers.{partition, shown, showIn}
 use Rattle.volume.specs.Steps.{every-no}
 use Rattle.volume.specs.Reads.{names-in, Lies, lies, candidate-in}
@@ -74,6 +78,45 @@ low-small p = go (eqb p 0)
     go true = omega arith
     go false = omega arith
 
+-- ---- the walk that adds up the entries from k on
+
+eqb-sum : (a b : ℕ) → eqb (a + b) 0 ≡ (eqb b 0 && eqb a 0)
+eqb-sum a b = go (eqb b 0) refl (eqb a 0) refl
+  where
+    go : (t : Bool) → eqb b 0 ≡ t → (u : Bool) → eqb a 0 ≡ u → eqb (a + b) 0 ≡ (t && u)
+    go true p true q = eq-eqb (a + b) 0 (let x = eqb-true b 0 p in let y = eqb-true a 0 q in omega arith)
+    go true p false q = ne-eqb (a + b) 0 (λ z. eqb-false a 0 q (omega arith))
+    go false p u q = ne-eqb (a + b) 0 (λ z. eqb-false b 0 p (omega arith))
+
+-- at i, which is past n only where k is
+pub record Nils (π : Partition) (v : View) (f w k n i sum : ℕ) : Type 0 where
+  pub is : eqb sum 0 ≡ all i (nilTest π v f w k)
+  pub small : sum ≤ 4294967295 * i
+  pub from : k ≤ i
+  pub past : n < i → i ≤ k
+
+nil-below : (π : Partition) (v : View) (f w k m : ℕ) → m ≤ k → all m (nilTest π v f w k) ≡ true
+nil-below π v f w k m h = all-of m (nilTest π v f w k) (λ j l. rw (lt-ltb j k (omega arith)))
+
+module _ {π : Partition} {v : View} {f w k n : ℕ} where
+  pub nil-starts : Nils π v f w k n k 0
+  nil-starts = record { is = sym (nil-below π v f w k k (omega arith)); small = omega arith; from = omega arith; past = λ h. omega arith }
+
+  module _ {i sum : ℕ} (g : Nils π v f w k n i sum) where
+    pub nil-next : {x : ℕ} → i < n → (x ≡ pair v f (w + 2 * i)) × (x < 4294967296) → Nils π v f w k n (i + 1) (sum + x)
+    unfolding all
+    nil-next {x} l q = record {
+      is = rw (add-one i, all, le-ltb i k (g .from), ← q .0, ← g .is) (eqb-sum sum x);
+      small = omega (arith, g .small, q .1);
+      from = omega (arith, g .from);
+      past = λ h. absurd (omega arith);
+    }
+
+    pub nil-end : n ≤ i → eqb sum 0 ≡ all n (nilTest π v f w k)
+    nil-end h = ⊎-elim (λ j. rw j (g .is)) (λ j. g .is ∙ nil-below π v f w k i (g .past j) ∙ sym (nil-below π v f w k n (let z = g .past j in omega arith))) (eq-or-lt-of-le h)
+
+pub ruleset nils = (nil-starts, nil-next, nil-end, needs)
+
 -- ---- an index that can be read
 
 module _ {π : Partition} {l : List ℕ} {f p k : ℕ} (o : Opened π l f p k) where
@@ -115,10 +158,10 @@ wf-opened f k p i h hk hp w = record {
 
 -- ---- the ways through `well_formed`, which reads L, that is the word w, and from it k and p
 
-module _ (π : Partition) (v : View) (f : ℕ) (z : ℤ) (hz : z ≡ signed (v f 258)) (small : v f 258 < 65536) where
+module _ (π : Partition) (v : View) (f : ℕ) (z : ℤ) (hz : z ≡ signed (v f lastBlockAt)) (small : v f lastBlockAt < 65536) where
   last-is : lastGood z ≡ leb (len π v f) reach
   unfolding len
-  last-is = ap lastGood hz ∙ last-good (v f 258) small
+  last-is = ap lastGood hz ∙ last-good (v f lastBlockAt) small
 
   pub wf-long : lastGood z ≡ false → false ≡ wellFormed π v f
   unfolding wellFormed
@@ -127,7 +170,7 @@ module _ (π : Partition) (v : View) (f : ℕ) (z : ℤ) (hz : z ≡ signed (v f
   module _ (good : lastGood z ≡ true) (k p : ℕ) (hk : k ≡ blocksTo z) (hp : p ≡ ptrsFor k) where
     pub len-is : k ≡ len π v f
     unfolding len
-    len-is = hk ∙ ap blocksTo hz ∙ blocks-to (v f 258) small (ap lastGood (sym hz) ∙ good)
+    len-is = hk ∙ ap blocksTo hz ∙ blocks-to (v f lastBlockAt) small (ap lastGood (sym hz) ∙ good)
 
     pub ptrs-is : p ≡ ptrs π v f
     unfolding ptrs

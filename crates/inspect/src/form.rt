@@ -28,27 +28,8 @@ const LOW_NUMBER: usize = 261;
 
 const LOW_ADDRESS: usize = 262;
 
-// Whether entry i of those from word w on in block f is nil, or i is below k.
-fn nil_at(
-    img: &[u8],
-    drive: usize,
-    s: usize,
-    e: usize,
-    f: usize,
-    w: usize,
-    k: usize,
-    i: usize,
-) -> bool
-    requires { ⌜ (528 * f + 528 ≤ length (now img)) × (w + 2 * i < 263) ⌝ }
-    ensures { λ a. ⌜ a ≡ nilTest (partitionOf drive s e) (view (now (img .entry))) f w k i ⌝ }
-{
-    if i < k {
-        return true;
-    }
-    image::pair(img, f, w + 2 * i) == 0
-}
-
-// Whether of the n entries from word w on those from k on are nil.
+// Whether of the n entries from word w on those from k on are nil: whether they add up to 0. With no way out of the loop the
+// compiler reads several at a time.
 fn nil_from(
     img: &[u8],
     drive: usize,
@@ -62,12 +43,11 @@ fn nil_from(
     requires { ⌜ (528 * f + 528 ≤ length (now img)) × (w + 2 * n < 263) ⌝ }
     ensures { λ a. ⌜ a ≡ all n (nilTest (partitionOf drive s e) (view (now (img .entry))) f w k) ⌝ }
 {
-    for i in 0..n {
-        if !nil_at(img, drive, s, e, f, w, k, i) {
-            return false;
-        }
+    let mut sum: usize = 0;
+    for i in k..n {
+        sum += image::pair(img, f, w + 2 * i);
     }
-    true
+    sum == 0
 }
 
 // Whether the entries of the index that p pointer blocks and k blocks do not need are nil.

@@ -1,16 +1,13 @@
-// Code that reads: the partition, candidates, well formed files, and the next file.
+// Code that reads: the partition, candidates, and well formed files.
 ghost use mathlib.Core.Path.{_≡_};
 ghost use Prim.Native.Nat.{_+_, _*_, _≤_, _<_};
-ghost use lib.Dec.{ltb};
 ghost use lib.ListN.{length};
-ghost use Rattle.base.specs.Tests.{pick};
 ghost use Rattle.image.specs.Image.{view};
-ghost use Rattle.volume.specs.Files.{partitionOf, candidate, isFile, isMalformed};
-ghost use Rattle.volume.specs.Answers.{imageGood, partGood, partition, lowestMalformed, fileAbove, nextFile};
+ghost use Rattle.volume.specs.Files.{partitionOf, candidate, isMalformed};
+ghost use Rattle.volume.specs.Answers.{imageGood, partGood, partition, lowestMalformed};
 ghost use Rattle.volume.specs.Reads.{Lies};
 use base::Refusal;
 use volume::Found;
-use volume::Outcome;
 use volume::Part;
 
 pub mod form; // form.rt: whether a file is well formed
@@ -103,22 +100,11 @@ pub fn candidate(img: &[u8], drive: usize, s: usize, e: usize, f: usize) -> bool
     if e < f {
         return false;
     }
-    if image::pair(img, f, SERIAL) != drive::pda(drive, f) {
+    // Before the serial, whose address is a division: most blocks are no FIB.
+    if !numbers::has_number(img, f, FIB) {
         return false;
     }
-    numbers::has_number(img, f, FIB)
-}
-
-// Whether f is a file.
-pub fn is_file(img: &[u8], drive: usize, s: usize, e: usize, f: usize) -> bool
-    requires { ⌜ Lies drive (now img) s e ⌝ }
-    ensures { λ r. ⌜ r ≡ isFile (partitionOf drive s e) (view (now (img .entry))) f ⌝ }
-{
-    if candidate(img, drive, s, e, f) {
-        form::well_formed(img, drive, s, e, f)
-    } else {
-        false
-    }
+    image::pair(img, f, SERIAL) == drive::pda(drive, f)
 }
 
 // Whether f is a malformed candidate.
@@ -145,46 +131,4 @@ pub fn lowest_malformed(img: &[u8], drive: usize, s: usize, e: usize) -> Found
         }
     }
     Found::Nothing
-}
-
-// The larger of two numbers.
-fn most(a: usize, b: usize) -> usize
-    ensures { λ r. ⌜ r ≡ pick (ltb a b) b a ⌝ }
-{
-    if a < b { b } else { a }
-}
-
-// The lowest file above b.
-pub fn file_above(img: &[u8], drive: usize, s: usize, e: usize, b: usize) -> Found
-    requires { ⌜ Lies drive (now img) s e ⌝ }
-    ensures { λ r. ⌜ r ≡ fileAbove (partitionOf drive s e) (view (now (img .entry))) b ⌝ }
-{
-    let a = most(b, s);
-    if e <= a {
-        return Found::Nothing;
-    }
-    let end = e + 1;
-    for f in a + 1..end {
-        if is_file(img, drive, s, e, f) {
-            return Found::At(f);
-        }
-    }
-    Found::Nothing
-}
-
-// Next file, a public call: the lowest file above a block.
-pub fn next_file(img: &[u8], drive: usize, s: usize, after: usize) -> Outcome
-    ensures { λ r. ⌜ r ≡ nextFile drive (now (img .entry)) s after ⌝ }
-{
-    let p = partition(img, drive, s);
-    match p {
-        Part::Good(e) => {
-            let x = file_above(img, drive, s, e, after);
-            match x {
-                Found::At(f) => Outcome::Done(f, 0, 0),
-                Found::Nothing => Outcome::Absent,
-            }
-        }
-        Part::Refused(why) => Outcome::Refused(why),
-    }
 }

@@ -11,8 +11,9 @@ use Rattle.drive.specs.Address.{pda, pdaBlock}
 use Rattle.image.specs.View.{View, pair}
 use Rattle.image.specs.Image.{view}
 use Rattle.base.specs.Laws.{both-of}
-use Rattle.volume.specs.Steps.{both-no, both-no-2}
-use Rattle.volume.specs.Files.{Partition, partitionOf, isMalformed, linkTest, tailTest, fileTest, candidate, wellFormed, isFile, ptrsFor, ptrs, ptr, len, nth, size, nextOf, prevOf, linked, fileOf, place, placeOf, owned}
+use Rattle.volume.specs.Steps.{both-no, both-no-2, Passed, pass-starts, pass-next, pass-fails, pass-end}
+use Rattle.volume.specs.Words.{nextAt, previousAt, relativeAt, serialAt}
+use Rattle.volume.specs.Files.{Partition, partitionOf, isMalformed, linkTest, tailTest, candidate, wellFormed, isFile, ptrsFor, ptrs, ptr, len, nth, size, nextOf, prevOf, linked, fileOf, place, placeOf, owned}
 use Rattle.volume.specs.Answers.{lowest, lowestMalformed, Unmarred}
 use Rattle.volume.specs.Reads.{Lies, candidate-in}
 use Rattle.volume.specs.declared.Found.the-variants.{Nothing}
@@ -52,6 +53,51 @@ module _ {π : Partition} {l : List ℕ} {f p k : ℕ} (o : Opened π l f p k) w
   unfolding linked both
   linked-no h = sym (rw (size-is, ← opened-ptrs o, ← o .is-len, h, linked, both))
 
+-- the walk of a file's links: each place below i has its links; b is the block at place i, and the addresses of b and of the block before
+-- it are known
+pub record Linking (π : Partition) (l : List ℕ) (f p k i before b own : ℕ) : Type 0 where
+  pub passed : Passed (linkTest π (view l) f) (p + suc k) i (all (p + suc k) (linkTest π (view l) f))
+  pub low : i ≤ p + k
+  pub back : before ≡ prevOf π (view l) f i
+  pub here : b ≡ nth π (view l) f i
+  pub within : b ≤ π .e
+  pub address : own ≡ pda (π .drive) b
+
+abbrev links : View → ℕ → ℕ → ℕ → Bool
+links v b next previous = both (eqb (pair v b nextAt) next) (eqb (pair v b previousAt) previous)
+
+module _ {π : Partition} {l : List ℕ} {f p k : ℕ} (o : Opened π l f p k) where
+  pub link-starts : {b own : ℕ} → (b ≡ nth π (view l) f 0) × (b ≤ π .e) → own ≡ pda (π .drive) b → Linking π l f p k 0 0 b own
+  link-starts h q = record { passed = pass-starts; low = omega arith; back = prev-start o 0 (omega arith); here = h .0; within = h .1; address = q }
+
+  module _ {i before b own : ℕ} (g : Linking π l f p k i before b own) where
+    test-is : {r : Bool} {y : ℕ} → y ≡ nextOf π (view l) f i → r ≡ links (view l) b y before → r ≡ linkTest π (view l) f i
+    test-is q j = j ∙ rw (g .here, q, g .back)
+
+    pub link-end : {r : Bool} → p + k ≤ i → r ≡ links (view l) b 0 before → r ≡ all (p + suc k) (linkTest π (view l) f)
+    link-end {r} m j = go r refl
+      where
+        here : r ≡ linkTest π (view l) f i
+        here = test-is (next-end o i m) j
+
+        go : (t : Bool) → r ≡ t → r ≡ all (p + suc k) (linkTest π (view l) f)
+        go true t = t ∙ pass-end (pass-next (g .passed) here t) (omega arith)
+        go false t = t ∙ pass-fails (g .passed) (let n = g .low in omega arith) here t
+
+    module _ {c y : ℕ} (m : i < p + k) (h : (c ≡ nth π (view l) f (i + 1)) × (c ≤ π .e)) (q : y ≡ pda (π .drive) c) {r : Bool} (j : r ≡ links (view l) b y before) where
+      pub link-fails : r ≡ false → false ≡ all (p + suc k) (linkTest π (view l) f)
+      link-fails t = pass-fails (g .passed) (omega arith) (test-is (next-is o i c y m (h .0) q) j) t
+
+      pub link-next : r ≡ true → Linking π l f p k (i + 1) own c y
+      link-next t = record {
+        passed = pass-next (g .passed) (test-is (next-is o i c y m (h .0) q) j) t;
+        low = omega arith;
+        back = prev-is o (i + 1) b own (omega arith) (g .here ∙ ap (nth π (view l) f) (let z : i ≡ i + 1 - 1 = omega arith in z)) (g .address);
+        here = h .0;
+        within = h .1;
+        address = q;
+      }
+
 -- a search that finds nothing
 pub lowest-none : (p : ℕ → Bool) (n a : ℕ) → lowest p a n ≡ Nothing → (x : ℕ) → a ≤ x → x < a + n → p x ≡ false
 unfolding lowest
@@ -80,7 +126,7 @@ module _ (π : Partition) (v : View) (none : Unmarred π v) where
       go false w = absurd (true≢false (sym (rw (c, w, isMalformed)) ∙ lowest-none (isMalformed π v) ((π .e) - (π .s)) ((π .s) + 1) none f (omega (arith, i .0)) (omega (arith, i .0, i .1))))
 
 -- the ways through `owned`, which reads the serial x, f, k, p and the place i first
-module _ (π : Partition) (v : View) (b x f : ℕ) (hx : x ≡ pair v b 0) (hf : f ≡ pdaBlock (π .drive) x) where
+module _ (π : Partition) (v : View) (b x f : ℕ) (hx : x ≡ pair v b serialAt) (hf : f ≡ pdaBlock (π .drive) x) where
   file-is : fileOf π v b ≡ f
   file-is = sym (hf ∙ ap (pdaBlock (π .drive)) hx)
 
@@ -92,7 +138,7 @@ module _ (π : Partition) (v : View) (b x f : ℕ) (hx : x ≡ pair v b 0) (hf :
   unfolding owned
   owned-not-serial h = sym (both-no _ _ (ne-eqb _ _ (λ q. h (hx ∙ q ∙ ap (pda (π .drive)) file-is))))
 
-  module _ (k p i : ℕ) (hk : k ≡ len π v f) (hp : p ≡ ptrs π v f) (hi : i ≡ placeOf p (v b 2)) where
+  module _ (k p i : ℕ) (hk : k ≡ len π v f) (hp : p ≡ ptrs π v f) (hi : i ≡ placeOf p (v b relativeAt)) where
     place-is : place π v b ≡ i
     unfolding place
     place-is = rw (file-is, ← hp) (sym hi)
@@ -113,12 +159,3 @@ opened {d} {l} {s} {e} i none f k p c hk hp = wf-opened f k p i (candidate-in (p
 pub is-file : (π : Partition) (v : View) → Unmarred π v → (f : ℕ) → candidate π v f ≡ true → isFile π v f ≡ true
 unfolding isFile
 is-file π v none f c = both-of c (formed π v none f c)
-
--- a block's test in a clean partition
-module _ (π : Partition) (v : View) (none : Unmarred π v) (i f : ℕ) (hf : f ≡ suc ((π .s) + i)) where
-  pub file-none : candidate π v f ≡ false → true ≡ fileTest π v i
-  file-none h = rw (rw hf at h)
-
-  pub file-linked : {r : Bool} → candidate π v f ≡ true → r ≡ linked π v f → r ≡ fileTest π v i
-  unfolding both
-  file-linked h q = q ∙ rw (rw hf at h, rw hf at (formed π v none f h), hf, both)

@@ -4,9 +4,11 @@ ghost use mathlib.Core.Bool.{true, false, _||_};
 ghost use Prim.Native.Nat.{ℕ, suc, _+_, _-_, _*_, _≤_, _<_};
 ghost use lib.ListN.{length};
 ghost use lib.Dec.{eqb};
-ghost use Rattle.base.specs.Tests.{all};
+ghost use Rattle.base.specs.Tests.{both, all};
+ghost use Rattle.image.specs.View.{pair};
 ghost use Rattle.image.specs.Image.{view};
-ghost use Rattle.volume.specs.Files.{partitionOf, placeOf, owned, nth, nextOf, prevOf, linked, linkTest, tailTest, fileTest};
+ghost use Rattle.volume.specs.Words.{nextAt, previousAt};
+ghost use Rattle.volume.specs.Files.{partitionOf, placeOf, owned, nth, nextOf, prevOf, linked, linkTest, tailTest};
 ghost use Rattle.volume.specs.Answers.{Unmarred};
 ghost use Rattle.volume.specs.Reads.{Lies};
 ghost use Rattle.inspect.specs.Parts.{Opened};
@@ -94,39 +96,38 @@ pub fn prev_of(
     }
 }
 
-// Whether place i of f has its links.
-fn link_good(
-    img: &[u8],
-    drive: usize,
-    s: usize,
-    e: usize,
-    f: usize,
-    p: usize,
-    k: usize,
-    i: usize,
-) -> bool
-    requires { ⌜ (Opened (partitionOf drive s e) (now img) f p k) × (i < p + suc k) ⌝ }
-    ensures { λ r. ⌜ r ≡ linkTest (partitionOf drive s e) (view (now (img .entry))) f i ⌝ }
+// Whether block b has the links `next` and `previous`.
+fn link_good(img: &[u8], b: usize, next: usize, previous: usize) -> bool
+    requires { ⌜ 528 * b + 528 ≤ length (now img) ⌝ }
+    ensures { λ r. ⌜ r ≡ both (eqb (pair (view (now (img .entry))) b nextAt) next) (eqb (pair (view (now (img .entry))) b previousAt) previous) ⌝ }
 {
-    let b = inspect::nth(img, drive, s, e, f, p, k, i);
-    if image::pair(img, b, NEXT) != next_of(img, drive, s, e, f, p, k, i) {
-        return false;
+    if image::pair(img, b, NEXT) == next {
+        image::pair(img, b, PREVIOUS) == previous
+    } else {
+        false
     }
-    image::pair(img, b, PREVIOUS) == prev_of(img, drive, s, e, f, p, k, i)
 }
 
-// Whether every place of f has its links.
+// Whether every place of f has its links. At place i the walk has its block b, the address of b, and that of the block before.
 fn links_good(img: &[u8], drive: usize, s: usize, e: usize, f: usize, p: usize, k: usize) -> bool
     requires { ⌜ Opened (partitionOf drive s e) (now img) f p k ⌝ }
     ensures { λ r. ⌜ r ≡ all (p + suc k) (linkTest (partitionOf drive s e) (view (now (img .entry))) f) ⌝ }
 {
-    let n = p + k + 1;
-    for i in 0..n {
-        if !link_good(img, drive, s, e, f, p, k, i) {
+    let last = p + k;
+    let mut before: usize = 0;
+    let mut b = inspect::nth(img, drive, s, e, f, p, k, 0);
+    let mut own = drive::pda(drive, b);
+    for i in 0..last {
+        let c = inspect::nth(img, drive, s, e, f, p, k, i + 1);
+        let next = drive::pda(drive, c);
+        if !link_good(img, b, next, before) {
             return false;
         }
+        before = own;
+        own = next;
+        b = c;
     }
-    true
+    link_good(img, b, 0, before)
 }
 
 // Whether entry i of the last pointer block q is used, or nil.
@@ -168,7 +169,7 @@ fn tails_good(img: &[u8], drive: usize, s: usize, e: usize, f: usize, p: usize, 
 }
 
 // Whether the blocks of f are linked in order.
-fn linked(img: &[u8], drive: usize, s: usize, e: usize, f: usize, p: usize, k: usize) -> bool
+pub fn linked(img: &[u8], drive: usize, s: usize, e: usize, f: usize, p: usize, k: usize) -> bool
     requires { ⌜ Opened (partitionOf drive s e) (now img) f p k ⌝ }
     ensures { λ r. ⌜ r ≡ linked (partitionOf drive s e) (view (now (img .entry))) f ⌝ }
 {
@@ -177,33 +178,4 @@ fn linked(img: &[u8], drive: usize, s: usize, e: usize, f: usize, p: usize, k: u
     } else {
         false
     }
-}
-
-// Whether block i of s+1..e is no candidate, or a file that is linked.
-fn file_good(img: &[u8], drive: usize, s: usize, e: usize, i: usize) -> bool
-    requires { ⌜ (Lies drive (now img) s e) × (s + i < e) × (Unmarred (partitionOf drive s e) (view (now img))) ⌝ }
-    ensures { λ r. ⌜ r ≡ fileTest (partitionOf drive s e) (view (now (img .entry))) i ⌝ }
-{
-    let f = s + i + 1;
-    if inspect::candidate(img, drive, s, e, f) {
-        let k = inspect::len(img, drive, s, e, f);
-        let p = inspect::ptrs_for(k);
-        linked(img, drive, s, e, f, p, k)
-    } else {
-        true
-    }
-}
-
-// Whether every file is linked, where no candidate is malformed.
-pub fn files_good(img: &[u8], drive: usize, s: usize, e: usize) -> bool
-    requires { ⌜ (Lies drive (now img) s e) × (Unmarred (partitionOf drive s e) (view (now img))) ⌝ }
-    ensures { λ r. ⌜ r ≡ all (e - s) (fileTest (partitionOf drive s e) (view (now (img .entry)))) ⌝ }
-{
-    let m = e - s;
-    for i in 0..m {
-        if !file_good(img, drive, s, e, i) {
-            return false;
-        }
-    }
-    true
 }

@@ -2,7 +2,7 @@
 ghost use mathlib.Core.Path.{_≡_};
 ghost use Rattle.volume.specs.Answers.{checked, nextFile, shown, shownPair, readFrom, plain, readInto, describedAs, describedInto, extracted};
 ghost use lib.ListN.{length};
-ghost use Rattle.reading.specs.Into.{extractedInto};
+ghost use Rattle.extract.specs.Into.{extractedInto};
 ghost use Rattle.perq.specs.Flat.{flat, flatFrom};
 use crate::PerqAnswer;
 
@@ -24,7 +24,7 @@ pub extern "C" fn perq_next_file(image: &[u8], drive: u32, s: u32, after: u32) -
     let d = crate::wide(drive);
     let p = crate::wide(s);
     let b = crate::wide(after);
-    crate::flat(0, inspect::next_file(image, d, p, b))
+    crate::flat(0, listing::next_file(image, d, p, b))
 }
 
 // Where the bytes of block r stand in the image.
@@ -110,5 +110,5 @@ pub extern "C" fn perq_extract(
     let d = crate::wide(drive);
     let p = crate::wide(s);
     let g = crate::wide(f);
-    crate::flat(0, reading::extract(image, d, p, g, buffer))
+    crate::flat(0, extract::extract(image, d, p, g, buffer))
 }

@@ -24,12 +24,10 @@ use words::PREVIOUS;
 use words::RELATIVE;
 use words::SERIAL;
 
-pub mod append;
-pub mod destroy;
 pub mod words;
 
 // The physical address of block b, which fits a pair of words.
-fn pda_of(drive: usize, b: usize) -> usize
+pub fn pda_of(drive: usize, b: usize) -> usize
     requires { ⌜ b < 69552 ⌝ }
     ensures { λ r. ⌜ (r ≡ pda drive b) × (r < 4294967296) ⌝ }
 {
@@ -37,7 +35,7 @@ fn pda_of(drive: usize, b: usize) -> usize
 }
 
 // The logical address of block b, which fits a pair of words.
-fn lda_of(drive: usize, b: usize) -> usize
+pub fn lda_of(drive: usize, b: usize) -> usize
     requires { ⌜ b < 69552 ⌝ }
     ensures { λ r. ⌜ (r ≡ lda drive b) × (r < 4294967296) ⌝ }
 {
@@ -69,7 +67,7 @@ pub fn replace_store(img: &mut [u8], b: usize, block: &[u8], limit: usize) -> us
 // ---- allocation
 
 // Block g as the first free block.
-fn first_save(img: &[u8], g: usize) -> Save
+pub fn first_save(img: &[u8], g: usize) -> Save
     requires { ⌜ Block (now img) g ⌝ }
     ensures { λ r. ⌜ StandsFor (now (img .entry)) (st g (newFirst 0 (view (now (img .entry))) g) ∷ []) r ⌝ }
 {
@@ -78,7 +76,7 @@ fn first_save(img: &[u8], g: usize) -> Save
 }
 
 // The PIB s with n free blocks fewer, from g on.
-fn pib_less_save(img: &[u8], drive: usize, s: usize, g: usize, n: usize) -> Save
+pub fn pib_less_save(img: &[u8], drive: usize, s: usize, g: usize, n: usize) -> Save
     requires { ⌜ (Block (now img) s) × (Block (now img) g) ⌝ }
     ensures { λ r. ⌜ StandsFor (now (img .entry)) (st s (pibLess drive (view (now (img .entry))) s g n) ∷ []) r ⌝ }
 {

@@ -2,24 +2,24 @@
 use mathlib.Core.Path.{_≡_, refl, sym, subst}
 use mathlib.Core.List.{List}
 use mathlib.Core.Bool.{Bool, true, false, not}
-use Prim.Native.Nat.{ℕ, suc, _+_, _-_, _*_, _/_, _%_, _≤_, _<_}
+use Prim.Native.Nat.{ℕ, suc, _+_, _-_, _≤_, _<_}
 use native.Mathlib.Omega.{arith}
-use lib.Dec.{leb, ltb, eqb}
-use lib.ListN.{getD}
-use borrow.Author.Tests.{ltb-true, eqb-true}
+use lib.Dec.{ltb, eqb}
+use borrow.Author.Tests.{ltb-true}
 use Rattle.base.specs.Tests.{pick, both, above, below}
 use Rattle.base.specs.Laws.{both-left, both-right}
-use Rattle.drive.specs.Address.{pda, lda}
-use Rattle.drive.specs.Fits.{pda-small, lda-small}
-use Rattle.image.specs.View.{View, Rec, put, put2}
+use Rattle.drive.specs.Address.{pda}
+use Rattle.drive.specs.Fits.{pda-small}
+use Rattle.image.specs.View.{View}
 use Rattle.image.specs.Image.{view, Bytes}
 use Rattle.image.specs.Stores.{Fits}
-use Rattle.volume.specs.Files.{Partition, ptrs, ptrsFor, len, nth, size, isFile, fileOf, place, owned, unowned, nextOf, prevOf, orNil}
+use Rattle.volume.specs.Files.{Partition, ptrs, len, nth, size, isFile, fileOf, place, owned, unowned, nextOf, prevOf, orNil}
 use Rattle.volume.specs.Reads.{inside-of}
 use Rattle.volume.specs.Owned.{own, member}
 use Rattle.volume.specs.Agree.{Clean}
 use Rattle.volume.specs.Plans.{trimmed, content, relinked, freed, repaired}
 use Rattle.frame.specs.Chain.{above-those, below-those}
+use Rattle.frame.specs.Fitting.{put-fits, put2-fits, trimmed-fits, view-fits}
 use Rattle.frame.specs.Repair.{repaired-mine, repaired-free}
 use Rattle.repair.specs.Standing.{last-under, head-under}
 
@@ -28,50 +28,13 @@ pick-small : (t : Bool) (x y n : ℕ) → x < n → y < n → pick t x y < n
 pick-small true x y n h k = h
 pick-small false x y n h k = k
 
--- records
-
-view-fits : (l : List ℕ) (b : ℕ) → Bytes l → Fits (view l b)
-unfolding view
-view-fits l b h = record { small = λ w. low w (ltb w 264); ends = λ w k. high w (ltb w 264) refl k }
-  where
-    low : (w : ℕ) (t : Bool) → pick t (getD l (528 * b + 2 * w) 0 + 256 * getD l (528 * b + 2 * w + 1) 0) 0 < 65536
-    low w true = omega (arith, h (528 * b + 2 * w), h (528 * b + 2 * w + 1))
-    low w false = omega arith
-
-    high : (w : ℕ) (t : Bool) → ltb w 264 ≡ t → 264 ≤ w → pick t (getD l (528 * b + 2 * w) 0 + 256 * getD l (528 * b + 2 * w + 1) 0) 0 ≡ 0
-    high w true q k = absurd (let m : w < 264 = ltb-true w 264 q in omega arith)
-    high w false q k = refl
-
-put-fits : (i x : ℕ) (r : Rec) → i < 264 → x < 65536 → Fits r → Fits (put i x r)
-unfolding put
-put-fits i x r hi hx h = record { small = λ w. pick-small (eqb w i) x (r w) 65536 hx (h .small w); ends = λ w k. high w (eqb w i) refl k }
-  where
-    high : (w : ℕ) (t : Bool) → eqb w i ≡ t → 264 ≤ w → pick t x (r w) ≡ 0
-    high w true q k = absurd (let m : w ≡ i = eqb-true w i q in omega arith)
-    high w false q k = h .ends w k
-
-put2-fits : (i x : ℕ) (r : Rec) → i < 263 → x < 4294967296 → Fits r → Fits (put2 i x r)
-unfolding put2
-put2-fits i x r hi hx h = put-fits i (x % 65536) _ (omega arith) (omega arith) (put-fits (i + 1) (x / 65536) r (omega arith) (omega arith) h)
-
-trimmed-fits : (k : ℕ) (r : Rec) → Fits r → Fits (trimmed k r)
-unfolding trimmed
-trimmed-fits k r h = record { small = λ w. pick-small (cut w) 0 (r w) 65536 (omega arith) (h .small w); ends = λ w l. go w (cut w) (h .ends w l) }
-  where
-    cut : ℕ → Bool
-    cut w = both (leb 8 w) (leb k (64 + 128 * (ptrsFor k - 1) + (w - 8) / 2))
-
-    go : (w : ℕ) (t : Bool) → r w ≡ 0 → pick t 0 (r w) ≡ 0
-    go w true q = refl
-    go w false q = q
-
 module _ (π : Partition) (v : View) (c : Clean π v) (few : π .e < 69552) where
   content-fits : (b : ℕ) → Fits (v b) → Fits (content π v b)
   unfolding content
   content-fits b h = go (both (eqb (place π v b) 0) (ltb 0 (ptrs π v (fileOf π v b))))
     where
       go : (t : Bool) → Fits (pick t (trimmed (len π v (fileOf π v b)) (v b)) (v b))
-      go true = trimmed-fits _ (v b) h
+      go true = trimmed-fits _ h
       go false = h
 
   -- a place of an owned block's file
@@ -119,12 +82,12 @@ module _ (π : Partition) (v : View) (c : Clean π v) (few : π .e < 69552) wher
       go : (t : Bool) → owned π v b ≡ t → Fits (repaired π v (unowned π v) b)
       go true o =
           subst Fits (sym (repaired-mine π v (unowned π v) b o))
-          (put2-fits 4 _ _ (omega arith) (next-small b o) (put2-fits 6 _ _ (omega arith) (prev-small b o) (content-fits b h)))
+          (put2-fits 4 _ (omega arith) (next-small b o) (put2-fits 6 _ (omega arith) (prev-small b o) (content-fits b h)))
       go false o =
           subst Fits (sym (repaired-free π v (unowned π v) b o))
-          (put2-fits 0 0 _ (omega arith) (omega arith)
-          (put-fits 3 _ _ (omega arith) (omega arith)
-          (put2-fits 4 _ _ (omega arith) (link _ up) (put2-fits 6 _ _ (omega arith) (link _ down) h))))
+          (put2-fits 0 0 (omega arith) (omega arith)
+          (put-fits 3 _ (omega arith) (omega arith)
+          (put2-fits 4 _ (omega arith) (link _ up) (put2-fits 6 _ (omega arith) (link _ down) h))))
 
 pub fits-of : (π : Partition) (l : List ℕ) → Clean π (view l) → π .e < 69552 → Bytes l → (b : ℕ) → π .s < b → b ≤ π .e → Fits (repaired π (view l) (unowned π (view l)) b)
 fits-of π l c few h b lo hi = repaired-fits π (view l) c few b lo hi (view-fits l b h)

@@ -109,9 +109,9 @@ module _ (π : Partition) (v : View) where
     pub free-few : (n ≡ count (π.e - π.s) (freeAt π v) → ⊥) → false ≡ freeSound π v
     free-few m = sym (tests-few (λ z. m (g .many ∙ z)))
 
-    pub free-rest : n ≡ count (π.e - π.s) (freeAt π v) → named π v n last ≡ freeSound π v
+    pub chain-rest : n ≡ count (π.e - π.s) (freeAt π v) → named π v n last ≡ freeSound π v
     unfolding freeSound named every
-    free-rest m =
+    chain-rest m =
         rw (all-there π v (free π v) (g .good) (sym (g .many) ∙ m), g .good .ins, g .good .links, head-is h, ← g .final, lt-ltb 0 (length (free π v)) (some-is h), ← g .many)
 
     pub last-is-in : last ≤ π.e

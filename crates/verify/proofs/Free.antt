@@ -12,6 +12,7 @@ use Rattle.base.specs.Tests.{both, lastOf, headOf}
 use Rattle.drive.specs.Address.{pda, pdaBlock}
 use Rattle.image.specs.View.{View, pair}
 use Rattle.base.specs.Laws.{both-of, both-left, both-right}
+use Rattle.volume.specs.Words.{nextAt, previousAt}
 use Rattle.volume.specs.Files.{Partition, inside, orNil, owned, within, chain, chained}
 use Rattle.volume.specs.Reads.{inside-of}
 use Rattle.verify.specs.Walks.{onward, stepAt, walk}
@@ -37,12 +38,12 @@ walk-starts π v b h = record { left = rw (sub-zero (π.e - π.s)); here = h; ba
 
 step-on-in : (π : Partition) (v : View) (before b c : ℕ) → stepAt π v before b ≡ On c → c ≤ π.e
 unfolding stepAt onward both
-step-on-in π v before b c h = go (owned π v b) refl (eqb (pair v b 6) (orNil π before)) refl (eqb x 0) refl (inside π (pdaBlock π.drive x)) refl (eqb (pda π.drive (pdaBlock π.drive x)) x) refl
+step-on-in π v before b c h = go (owned π v b) refl (eqb (pair v b previousAt) (orNil π before)) refl (eqb x 0) refl (inside π (pdaBlock π.drive x)) refl (eqb (pda π.drive (pdaBlock π.drive x)) x) refl
   where
     x : ℕ
-    x = pair v b 4
+    x = pair v b nextAt
 
-    go : (t : Bool) → owned π v b ≡ t → (u : Bool) → eqb (pair v b 6) (orNil π before) ≡ u → (y : Bool) → eqb x 0 ≡ y
+    go : (t : Bool) → owned π v b ≡ t → (u : Bool) → eqb (pair v b previousAt) (orNil π before) ≡ u → (y : Bool) → eqb x 0 ≡ y
         → (z : Bool) → inside π (pdaBlock π.drive x) ≡ z → (w : Bool) → eqb (pda π.drive (pdaBlock π.drive x)) x ≡ w → c ≤ π.e
     go true p u q y r z i w j = let k = rw (p, stepAt) at h in let z : _≡_ {A = ℕ} 0 1 = cc in absurd (omega arith)
     go false p false q y r z i w j = let k = rw (p, q, stepAt) at h in let z : _≡_ {A = ℕ} 0 1 = cc in absurd (omega arith)
@@ -96,11 +97,11 @@ module _ (π : Partition) (v : View) where
     unfolding noneOwned
     fine-owned h g = let q = both-left _ _ (g .unowned) in true≢false (sym q ∙ rw h)
 
-    pub fine-prev : Fine before (b ∷ l) → eqb (pair v b 6) (orNil π before) ≡ true
+    pub fine-prev : Fine before (b ∷ l) → eqb (pair v b previousAt) (orNil π before) ≡ true
     unfolding chained
     fine-prev g = both-left _ _ (g .links)
 
-    pub fine-next : Fine before (b ∷ l) → pair v b 4 ≡ orNil π (headOf 0 l)
+    pub fine-next : Fine before (b ∷ l) → pair v b nextAt ≡ orNil π (headOf 0 l)
     unfolding chained
     fine-next g = eqb-true _ _ (both-left _ _ (both-right _ _ (g .links)))
 
@@ -112,7 +113,7 @@ module _ (π : Partition) (v : View) where
     unfolding within chained noneOwned
     fine-rest g = record { ins = both-right _ _ (g .ins); links = both-right _ _ (both-right _ _ (g .links)); unowned = both-right _ _ (g .unowned) }
 
-    pub fine-cons : inside π b ≡ true → owned π v b ≡ false → eqb (pair v b 6) (orNil π before) ≡ true → pair v b 4 ≡ orNil π (headOf 0 l) → Fine b l → Fine before (b ∷ l)
+    pub fine-cons : inside π b ≡ true → owned π v b ≡ false → eqb (pair v b previousAt) (orNil π before) ≡ true → pair v b nextAt ≡ orNil π (headOf 0 l) → Fine b l → Fine before (b ∷ l)
     unfolding within chained noneOwned
     fine-cons i o p n g = record { ins = both-of i (g .ins); links = both-of p (both-of (eq-eqb _ _ n) (g .links)); unowned = both-of (not-yes _ o) (g .unowned) }
 
@@ -124,11 +125,11 @@ module _ (π : Partition) (v : View) where
   not-zero b i = rw (ne-eqb b 0 (λ z. omega (arith, inside-of π b i .0)))
 
   -- the chain from b, by its link
-  chain-end : (k b : ℕ) → pair v b 4 ≡ 0 → chain π v (suc k) b ≡ b ∷ []
+  chain-end : (k b : ℕ) → pair v b nextAt ≡ 0 → chain π v (suc k) b ≡ b ∷ []
   unfolding chain
   chain-end k b h = rw (eq-eqb _ _ h, chain)
 
-  chain-on : (k b : ℕ) → (pair v b 4 ≡ 0 → ⊥) → chain π v (suc k) b ≡ b ∷ chain π v k (pdaBlock π.drive (pair v b 4))
+  chain-on : (k b : ℕ) → (pair v b nextAt ≡ 0 → ⊥) → chain π v (suc k) b ≡ b ∷ chain π v k (pdaBlock π.drive (pair v b nextAt))
   unfolding chain
   chain-on k b h = rw (ne-eqb _ _ h, chain)
 
@@ -141,47 +142,47 @@ module _ (π : Partition) (v : View) where
   last-chain k b c = refl
 
   -- a fine list goes on where the link leads
-  fine-on : (k before b : ℕ) → (pair v b 4 ≡ 0 → ⊥) → Fine before (b ∷ chain π v k (pdaBlock π.drive (pair v b 4)))
-      → both (inside π (pdaBlock π.drive (pair v b 4))) (eqb (pda π.drive (pdaBlock π.drive (pair v b 4))) (pair v b 4)) ≡ true
+  fine-on : (k before b : ℕ) → (pair v b nextAt ≡ 0 → ⊥) → Fine before (b ∷ chain π v k (pdaBlock π.drive (pair v b nextAt)))
+      → both (inside π (pdaBlock π.drive (pair v b nextAt))) (eqb (pda π.drive (pdaBlock π.drive (pair v b nextAt))) (pair v b nextAt)) ≡ true
   unfolding chain headOf
   fine-on zero before b h g = absurd (h (fine-next before b _ g))
   fine-on (suc k) before b h g =
       let i = fine-here b _ _ (fine-rest before b _ g) in
       both-of i (eq-eqb _ _ (sym (fine-next before b _ g ∙ not-zero _ i)))
 
-  extend : (before b n k : ℕ) {w : Walk} → inside π b ≡ true → owned π v b ≡ false → eqb (pair v b 6) (orNil π before) ≡ true
-      → both (inside π (pdaBlock π.drive (pair v b 4))) (eqb (pda π.drive (pdaBlock π.drive (pair v b 4))) (pair v b 4)) ≡ true
-      → Verdict b (n + 1) (chain π v (suc k) (pdaBlock π.drive (pair v b 4))) w
-      → Verdict before n (b ∷ chain π v (suc k) (pdaBlock π.drive (pair v b 4))) w
+  extend : (before b n k : ℕ) {w : Walk} → inside π b ≡ true → owned π v b ≡ false → eqb (pair v b previousAt) (orNil π before) ≡ true
+      → both (inside π (pdaBlock π.drive (pair v b nextAt))) (eqb (pda π.drive (pdaBlock π.drive (pair v b nextAt))) (pair v b nextAt)) ≡ true
+      → Verdict b (n + 1) (chain π v (suc k) (pdaBlock π.drive (pair v b nextAt))) w
+      → Verdict before n (b ∷ chain π v (suc k) (pdaBlock π.drive (pair v b nextAt))) w
   unfolding headOf chain
   extend before b n k ib o p i (fine g m z) =
       fine (fine-cons before b _ ib o p (sym (eqb-true _ _ (both-right _ _ i)) ∙ sym (not-zero _ (both-left _ _ i))) g)
-      (m ∙ omega arith) (z ∙ sym (last-chain k b (pdaBlock π.drive (pair v b 4))))
+      (m ∙ omega arith) (z ∙ sym (last-chain k b (pdaBlock π.drive (pair v b nextAt))))
   extend before b n k ib o p i (wrong h) = wrong (λ g. h (fine-rest before b _ g))
 
   chain-owned : (k before b : ℕ) → owned π v b ≡ true → Fine before (chain π v (suc k) b) → ⊥
   unfolding chain
   chain-owned k before b h g = fine-owned before b _ h g
 
-  chain-prev : (k before b : ℕ) → Fine before (chain π v (suc k) b) → eqb (pair v b 6) (orNil π before) ≡ true
+  chain-prev : (k before b : ℕ) → Fine before (chain π v (suc k) b) → eqb (pair v b previousAt) (orNil π before) ≡ true
   unfolding chain
   chain-prev k before b g = fine-prev before b _ g
 
   walk-step : (k before b n : ℕ) → inside π b ≡ true
-      → (owned π v b ≡ false → eqb (pair v b 6) (orNil π before) ≡ true → (pair v b 4 ≡ 0 → ⊥)
-      → both (inside π (pdaBlock π.drive (pair v b 4))) (eqb (pda π.drive (pdaBlock π.drive (pair v b 4))) (pair v b 4)) ≡ true
-      → Verdict before n (b ∷ chain π v k (pdaBlock π.drive (pair v b 4))) (walk π v k b (pdaBlock π.drive (pair v b 4)) (n + 1)))
+      → (owned π v b ≡ false → eqb (pair v b previousAt) (orNil π before) ≡ true → (pair v b nextAt ≡ 0 → ⊥)
+      → both (inside π (pdaBlock π.drive (pair v b nextAt))) (eqb (pda π.drive (pdaBlock π.drive (pair v b nextAt))) (pair v b nextAt)) ≡ true
+      → Verdict before n (b ∷ chain π v k (pdaBlock π.drive (pair v b nextAt))) (walk π v k b (pdaBlock π.drive (pair v b nextAt)) (n + 1)))
       → Verdict before n (chain π v (suc k) b) (walk π v (suc k) before b n)
   unfolding walk stepAt onward headOf lastOf
-  walk-step k before b n ib rec = go (owned π v b) refl (eqb (pair v b 6) (orNil π before)) refl (eqb x 0) refl (both (inside π c) (eqb (pda π.drive c) x)) refl
+  walk-step k before b n ib rec = go (owned π v b) refl (eqb (pair v b previousAt) (orNil π before)) refl (eqb x 0) refl (both (inside π c) (eqb (pda π.drive c) x)) refl
     where
       x : ℕ
-      x = pair v b 4
+      x = pair v b nextAt
 
       c : ℕ
       c = pdaBlock π.drive x
 
-      go : (t : Bool) → owned π v b ≡ t → (u : Bool) → eqb (pair v b 6) (orNil π before) ≡ u → (y : Bool) → eqb x 0 ≡ y → (z : Bool) → both (inside π c) (eqb (pda π.drive c) x) ≡ z
+      go : (t : Bool) → owned π v b ≡ t → (u : Bool) → eqb (pair v b previousAt) (orNil π before) ≡ u → (y : Bool) → eqb x 0 ≡ y → (z : Bool) → both (inside π c) (eqb (pda π.drive c) x) ≡ z
           → Verdict before n (chain π v (suc k) b) (walk π v (suc k) before b n)
       go true p u q y r z i = rw (p, walk, stepAt) (wrong (chain-owned k before b p))
       go false p false q y r z i = rw (p, q, walk, stepAt) (wrong (λ g. true≢false (sym (chain-prev k before b g) ∙ q)))
@@ -192,4 +193,4 @@ module _ (π : Partition) (v : View) where
   pub walk-says : (k before b n : ℕ) → inside π b ≡ true → Verdict before n (chain π v (suc k) b) (walk π v (suc k) before b n)
   unfolding walk chain headOf
   walk-says zero before b n ib = walk-step zero before b n ib (λ o p x i. wrong (λ g. x (fine-next before b [] g)))
-  walk-says (suc k) before b n ib = walk-step (suc k) before b n ib (λ o p x i. extend before b n k ib o p i (walk-says k b (pdaBlock π.drive (pair v b 4)) (n + 1) (both-left _ _ i)))
+  walk-says (suc k) before b n ib = walk-step (suc k) before b n ib (λ o p x i. extend before b n k ib o p i (walk-says k b (pdaBlock π.drive (pair v b nextAt)) (n + 1) (both-left _ _ i)))

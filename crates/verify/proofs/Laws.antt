@@ -1,60 +1,37 @@
 -- What soundness gives to code: the free chain's blocks lie in the partition, and NumberFree is what check counts.
-use mathlib.Core.Path.{_≡_, sym, ap, _∙_}
+use mathlib.Core.Path.{_≡_, ap, _∙_}
 use mathlib.Core.List.{_∷_}
-use mathlib.Core.Bool.{Bool, true, false}
+use mathlib.Core.Bool.{true}
 use Prim.Native.Nat.{ℕ, _+_, _-_, _≤_, _<_}
 use native.Mathlib.Omega.{arith}
 use lib.ListN.{length}
-use Rattle.base.specs.Tests.{both, all, count, occ}
-use Rattle.base.specs.Laws.{both-left, both-right, every-at, iff-eq}
+use Rattle.base.specs.Tests.{all, count, occ}
+use Rattle.base.specs.Laws.{both-right, every-at}
 use Rattle.drive.specs.Address.{pdaBlock}
 use Rattle.image.specs.View.{View, pair}
-use Rattle.volume.specs.Files.{Partition, blockAt, candidate, isFile, owned, free, freeHead, fileTest, onceTest, freeSound, sound}
-use Rattle.volume.specs.Answers.{Unmarred, tallied}
+use Rattle.volume.specs.Words.{nextAt, numberFreeAt, relativeAt}
+use Rattle.volume.specs.Files.{Partition, blockAt, owned, free, freeHead, onceTest, freeSound, sound}
 use Rattle.volume.specs.Reads.{inside-of}
-use Rattle.volume.specs.Steps.{both-no}
-use Rattle.volume.specs.declared.Outcome.the-variants.{Done}
 use Rattle.frame.specs.Sound.{occ-here, occ-more, after₁, free-in, free-starts, head-free, sound-number, sound-some, sound-within}
-use Rattle.links.proofs.Laws.{is-file}
-use Rattle.verify.specs.Walks.{fileAt, freeAt}
+use Rattle.verify.specs.Walks.{freeAt}
 use Rattle.verify.proofs.Counts.{count-both}
 use Rattle.verify.proofs.Pigeon.{there-many}
 
 module _ (π : Partition) (v : View) where
-  -- where no candidate is malformed a candidate is a file
-  pub file-is : Unmarred π v → (f : ℕ) → candidate π v f ≡ isFile π v f
-  unfolding isFile
-  file-is none f = iff-eq _ _ (λ c. is-file π v none f c) (λ h. both-left _ _ h)
-
-  -- the two halves of soundness
-  pub sound-is : {r : Bool} → all (π.e - π.s) (fileTest π v) ≡ true → r ≡ freeSound π v → r ≡ sound π v
-  unfolding sound both
-  sound-is h q = q ∙ sym (rw (h, sound))
-
-  pub sound-no : all (π.e - π.s) (fileTest π v) ≡ false → false ≡ sound π v
-  unfolding sound
-  sound-no h = sym (both-no _ _ h)
-
   module _ (ok : sound π v ≡ true) where
     sound-onces : all (π.e - π.s) (onceTest π v (free π v)) ≡ true
     unfolding sound freeSound
     sound-onces = every-at _ (both-right _ _ ok) 0
 
     -- NumberFree is the number of blocks that are not owned, and at most that of all
-    pub number-is : pair v π.s 12 ≡ count (π.e - π.s) (freeAt π v)
+    pub number-is : pair v π.s numberFreeAt ≡ count (π.e - π.s) (freeAt π v)
     number-is = sound-number π v ok ∙ there-many π v (free π v) (sound-within π v ok) sound-onces
 
-    rest-is : pair v π.s 12 + count (π.e - π.s) (λ i. owned π v (blockAt π i)) ≡ π.e - π.s
+    rest-is : pair v π.s numberFreeAt + count (π.e - π.s) (λ i. owned π v (blockAt π i)) ≡ π.e - π.s
     rest-is = let q = count-both (π.e - π.s) (λ i. owned π v (blockAt π i)) in omega (arith, number-is)
 
-    pub number-low : pair v π.s 12 ≤ π.e - π.s
+    pub number-low : pair v π.s numberFreeAt ≤ π.e - π.s
     number-low = omega (arith, rest-is)
-
-    pub tally-is : (files n : ℕ) → files ≡ count (π.e - π.s) (fileAt π v) → n ≡ pair v π.s 12 → Done files (π.e - π.s - n) n ≡ tallied π v
-    unfolding tallied
-    tally-is files n hf hn =
-        let a : π.e - π.s - n ≡ count (π.e - π.s) (λ i. owned π v (blockAt π i)) = omega (arith, rest-is) in
-        rw (hf, a, hn, number-is)
 
     -- the first free block, and the second
     pub head-in : (π.s < freeHead π v) × (freeHead π v ≤ π.e)
@@ -62,15 +39,15 @@ module _ (π : Partition) (v : View) where
 
     second-free : 2 ≤ length (free π v) → 0 < occ (after₁ π v (freeHead π v)) (free π v)
     second-free h =
-        let r = free-starts π v ok 2 h in
+        let r = free-starts π v ok relativeAt h in
         let x : ℕ = after₁ π v (freeHead π v) in
         omega (arith, ap (occ x) (r .is), occ-here x (r .rest), occ-more x (freeHead π v) (x ∷ r .rest))
 
-    pub second-in : 2 ≤ length (free π v) → (π.s < pdaBlock π.drive (pair v (freeHead π v) 4)) × (pdaBlock π.drive (pair v (freeHead π v) 4) ≤ π.e)
+    pub second-in : 2 ≤ length (free π v) → (π.s < pdaBlock π.drive (pair v (freeHead π v) nextAt)) × (pdaBlock π.drive (pair v (freeHead π v) nextAt) ≤ π.e)
     second-in h = inside-of π _ (free-in π v ok _ (second-free h))
 
-    pub number-free : pair v π.s 12 ≡ length (free π v)
+    pub number-free : pair v π.s numberFreeAt ≡ length (free π v)
     number-free = sound-number π v ok
 
-    pub number-some : 1 ≤ pair v π.s 12
+    pub number-some : 1 ≤ pair v π.s numberFreeAt
     number-some = omega (arith, number-free, sound-some π v ok)

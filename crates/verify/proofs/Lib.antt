@@ -3,3 +3,5 @@ pub mod Laws
 pub mod Free
 pub mod Pigeon
 pub mod Chains
+pub mod Sizes
+pub mod Surveys

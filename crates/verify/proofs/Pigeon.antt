@@ -1,15 +1,14 @@
 -- Occurrences: a fine list has no block twice, so as many blocks as are unowned means each of them once. Assumes nothing.
 use mathlib.Core.Path.{_≡_, refl, sym, ap, _∙_}
 use mathlib.Core.List.{List, [], _∷_}
-use mathlib.Core.Logic.{⊎-elim}
 use mathlib.Core.Bool.{Bool, true, false, not, true≢false}
-use Prim.Native.Nat.{ℕ, zero, suc, _+_, _-_, _≤_, _<_}
+use Prim.Native.Nat.{ℕ, suc, _+_, _-_, _≤_, _<_}
 use native.Mathlib.Omega.{arith}
-use native.Mathlib.Nat.{eq-or-lt-of-le}
 use lib.Dec.{eqb}
 use lib.ListN.{length}
-use borrow.Author.Tests.{eq-eqb, ne-eqb, eqb-true, eqb-false}
+use borrow.Author.Tests.{eq-eqb, ne-eqb, eqb-true}
 use Rattle.base.specs.Tests.{pick, all, count, occ, headOf}
+use Rattle.base.specs.Sums.{sum, sum-same, sum-add, sum-nil, sum-equal, sum-here, count-sum}
 use Rattle.drive.specs.Address.{pda, pdaBlock}
 use Rattle.drive.specs.Laws.{pda-back, pda-pos}
 use Rattle.image.specs.View.{View}
@@ -19,72 +18,15 @@ use Rattle.volume.specs.Reads.{inside-of}
 use Rattle.verify.specs.Walks.{freeAt}
 use Rattle.verify.proofs.Free.{Fine, noneOwned, fine-next, fine-here, fine-rest}
 
-unfoldable pub total : ℕ → (ℕ → ℕ) → ℕ
-total zero f = zero
-total (suc k) f = f k + total k f
-
-total-same : (k : ℕ) (f g : ℕ → ℕ) → ((i : ℕ) → i < k → f i ≡ g i) → total k f ≡ total k g
-unfolding total
-total-same zero f g h = refl
-total-same (suc k) f g h = rw (h k (omega arith), total-same k f g (λ i l. h i (omega arith)))
-
-total-add : (k : ℕ) (f g : ℕ → ℕ) → total k (λ i. f i + g i) ≡ total k f + total k g
-unfolding total
-total-add zero f g = refl
-total-add (suc k) f g = let q = total-add k f g in omega arith
-
-total-le : (k : ℕ) (f g : ℕ → ℕ) → ((i : ℕ) → i < k → f i ≤ g i) → total k f ≤ total k g
-unfolding total
-total-le zero f g h = omega arith
-total-le (suc k) f g h = omega (arith, h k (omega arith), total-le k f g (λ i l. h i (omega arith)))
-
--- the pigeonhole: nowhere more, and the same in all, is the same everywhere
-total-equal : (k : ℕ) (f g : ℕ → ℕ) → ((i : ℕ) → i < k → f i ≤ g i) → total k f ≡ total k g → (i : ℕ) → i < k → f i ≡ g i
-unfolding total
-total-equal zero f g h q i l = absurd (omega arith)
-total-equal (suc k) f g h q i l =
-    let a = h k (omega arith) in
-    let b = total-le k f g (λ j m. h j (omega arith)) in
-    let m : i ≤ k = omega arith in
-    ⊎-elim (λ z. rw z (omega arith)) (λ m. total-equal k f g (λ j m. h j (omega arith)) (omega arith) i m) (eq-or-lt-of-le m)
-
-total-none : (k s x : ℕ) → s + k < x → total k (λ i. pick (eqb (suc (s + i)) x) 1 0) ≡ 0
-unfolding total
-total-none zero s x h = refl
-total-none (suc k) s x h = rw (ne-eqb (suc (s + k)) x (λ z. omega arith), total-none k s x (omega arith))
-
-total-one : (k s x : ℕ) → s < x → x ≤ s + k → total k (λ i. pick (eqb (suc (s + i)) x) 1 0) ≡ 1
-unfolding total
-total-one zero s x l h = absurd (omega arith)
-total-one (suc k) s x l h = go (eqb (suc (s + k)) x) refl (λ m. total-one k s x l m)
-  where
-    go : (t : Bool) → eqb (suc (s + k)) x ≡ t → (x ≤ s + k → total k (λ i. pick (eqb (suc (s + i)) x) 1 0) ≡ 1)
-        → pick (eqb (suc (s + k)) x) 1 0 + total k (λ i. pick (eqb (suc (s + i)) x) 1 0) ≡ 1
-    go true q ih = rw (q, total-none k s x (omega (arith, eqb-true (suc (s + k)) x q)))
-    go false q ih = rw (q, ih (below (eqb-false (suc (s + k)) x q)))
-      where
-        below : (suc (s + k) ≡ x → ⊥) → x ≤ s + k
-        below n = ⊎-elim (λ z. absurd (n (sym z))) (λ m. omega arith) (eq-or-lt-of-le (let w : x ≤ suc (s + k) = omega arith in w))
-
-zeros : (k : ℕ) → total k (λ i. 0) ≡ 0
-unfolding total
-zeros zero = refl
-zeros (suc k) = rw (zeros k)
-
 -- the blocks of a list within the partition, counted block by block
-pub total-occ : (π : Partition) (l : List ℕ) → within π l ≡ true → total (π.e - π.s) (λ i. occ (suc (π.s + i)) l) ≡ length l
+pub sum-occ : (π : Partition) (l : List ℕ) → within π l ≡ true → sum (π.e - π.s) (λ i. occ (suc (π.s + i)) l) ≡ length l
 unfolding within occ
-total-occ π [] h = zeros (π.e - π.s)
-total-occ π (x ∷ l) h =
+sum-occ π [] h = sum-nil (π.e - π.s)
+sum-occ π (x ∷ l) h =
     let i = inside-of π x (both-left _ _ h) in
-    let q = total-occ π l (both-right _ _ h) in
-    total-add (π.e - π.s) (λ i. pick (eqb (suc (π.s + i)) x) 1 0) (λ i. occ (suc (π.s + i)) l)
-    ∙ rw (total-one (π.e - π.s) π.s x (i .0) (omega (arith, i .0, i .1)), q) (omega arith)
-
-pub count-total : (k : ℕ) (P : ℕ → Bool) → count k P ≡ total k (λ i. pick (P i) 1 0)
-unfolding count total
-count-total zero P = refl
-count-total (suc k) P = ap (λ (n : ℕ). pick (P k) 1 0 + n) (count-total k P)
+    let q = sum-occ π l (both-right _ _ h) in
+    sum-add (π.e - π.s) (λ i. pick (eqb (suc (π.s + i)) x) 1 0) (λ i. occ (suc (π.s + i)) l)
+    ∙ rw (sum-here π.s (π.e - π.s) x (i .0) (omega (arith, i .0, i .1)), q) (omega arith)
 
 module _ (π : Partition) (v : View) where
   some : (b : ℕ) → inside π b ≡ true → orNil π b ≡ pda π.drive b
@@ -135,12 +77,12 @@ module _ (π : Partition) (v : View) where
   turned true = refl
   turned false = refl
 
-  free-total : count (π.e - π.s) (freeAt π v) ≡ total (π.e - π.s) (λ i. pick (owned π v (suc (π.s + i))) 0 1)
-  free-total = count-total (π.e - π.s) (freeAt π v) ∙ total-same (π.e - π.s) _ _ (λ i l. turned (owned π v (suc (π.s + i))))
+  free-sum : count (π.e - π.s) (freeAt π v) ≡ sum (π.e - π.s) (λ i. pick (owned π v (suc (π.s + i))) 0 1)
+  free-sum = count-sum (π.e - π.s) (freeAt π v) ∙ sum-same (π.e - π.s) _ _ (λ i l. turned (owned π v (suc (π.s + i))))
 
   -- as many as are unowned: each of them once, and no owned one
   pub all-there : (l : List ℕ) → Fine π v 0 l → length l ≡ count (π.e - π.s) (freeAt π v) → all (π.e - π.s) (onceTest π v l) ≡ true
-  all-there l f h = all-of (π.e - π.s) (onceTest π v l) (λ i m. eq-eqb _ _ (total-equal (π.e - π.s) (λ i. occ (suc (π.s + i)) l) (λ i. pick (owned π v (suc (π.s + i))) 0 1) few (total-occ π l (f .ins) ∙ h ∙ free-total) i m))
+  all-there l f h = all-of (π.e - π.s) (onceTest π v l) (λ i m. eq-eqb _ _ (sum-equal (π.e - π.s) (λ i. occ (suc (π.s + i)) l) (λ i. pick (owned π v (suc (π.s + i))) 0 1) few (sum-occ π l (f .ins) ∙ h ∙ free-sum) i m))
     where
       few : (i : ℕ) → i < π.e - π.s → occ (suc (π.s + i)) l ≤ pick (owned π v (suc (π.s + i))) 0 1
       few i m = go (owned π v (suc (π.s + i))) refl
@@ -151,7 +93,7 @@ module _ (π : Partition) (v : View) where
 
   -- and back
   pub there-many : (l : List ℕ) → within π l ≡ true → all (π.e - π.s) (onceTest π v l) ≡ true → length l ≡ count (π.e - π.s) (freeAt π v)
-  there-many l w h = sym (total-occ π l w) ∙ total-same (π.e - π.s) _ _ (λ i m. eqb-true _ _ (all-at (π.e - π.s) (onceTest π v l) h i m)) ∙ sym free-total
+  there-many l w h = sym (sum-occ π l w) ∙ sum-same (π.e - π.s) _ _ (λ i m. eqb-true _ _ (all-at (π.e - π.s) (onceTest π v l) h i m)) ∙ sym free-sum
 
   none-of : (l : List ℕ) → within π l ≡ true → ((b : ℕ) → inside π b ≡ true → owned π v b ≡ true → occ b l ≡ 0) → noneOwned π v l ≡ true
   unfolding occ noneOwned within

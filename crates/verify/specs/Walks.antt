@@ -7,7 +7,7 @@ use mathlib.Core.List.{[], _∷_}
 use Rattle.drive.specs.Address.{pda, pdaBlock}
 use Rattle.image.specs.View.{View, pair}
 use Rattle.volume.specs.Words.{nextAt, previousAt, freeHeadAt, freeTailAt, numberFreeAt}
-use Rattle.volume.specs.Files.{Partition, blockAt, inside, isLda, orNil, isFile, owned, freeHead}
+use Rattle.volume.specs.Files.{Partition, blockAt, inside, isLda, orNil, owned, freeHead}
 use Rattle.verify.specs.declared.Step.{Step}
 use Rattle.verify.specs.declared.Step.the-variants.{Bad, End, On}
 use Rattle.verify.specs.declared.Walk.{Walk}
@@ -38,9 +38,6 @@ module _ (π : Partition) (v : View) where
       ∷ eqb (pair v π.s numberFreeAt) n
       ∷ [])
 
-  -- block i of s+1..e is a file, and is not owned
-  abbrev pub fileAt : ℕ → Bool
-  fileAt i = isFile π v (blockAt π i)
-
+  -- block i of s+1..e is not owned
   abbrev pub freeAt : ℕ → Bool
   freeAt i = not (owned π v (blockAt π i))

@@ -1,13 +1,15 @@
-// Code that decides soundness: the walk of the free chain, the count of unowned blocks, and check.
+// Code that decides soundness: the walk of the free chain, one pass over the blocks and the files among them, and check.
 ghost use mathlib.Core.Path.{_≡_};
-ghost use mathlib.Core.Bool.{true};
+ghost use mathlib.Core.Bool.{true, false};
 ghost use Prim.Native.Nat.{_+_, _-_, _≤_, _<_};
-ghost use Rattle.base.specs.Tests.{count};
+ghost use Rattle.base.specs.Tests.{all};
+ghost use Rattle.base.specs.Sums.{sum};
 ghost use Rattle.image.specs.Image.{view};
-ghost use Rattle.volume.specs.Files.{partitionOf, orNil, freeSound, sound};
-ghost use Rattle.volume.specs.Answers.{Unmarred, tallied, checked};
+ghost use Rattle.volume.specs.Files.{partitionOf, orNil, fileTest, freeSound, sound};
+ghost use Rattle.volume.specs.Answers.{Unmarred, checkIn, checked};
 ghost use Rattle.volume.specs.Reads.{Lies};
-ghost use Rattle.verify.specs.Walks.{onward, stepAt, walk, walked, named, fileAt, freeAt};
+ghost use Rattle.verify.specs.Walks.{onward, stepAt, walk, walked, named};
+ghost use Rattle.verify.specs.Survey.{sizeAt, standing, survey};
 use base::Refusal;
 use volume::Found;
 use volume::Outcome;
@@ -35,6 +37,19 @@ pub enum Step {
 pub enum Walk {
     Wrong(usize),
     Free(usize, usize),
+}
+
+// How a block stands: no candidate, a file of so many blocks that are linked, or a candidate that is neither well formed nor linked.
+pub enum Standing {
+    Other,
+    Faulty,
+    File(usize),
+}
+
+// What a pass over the blocks finds: a faulty candidate, or how many files there are and how many blocks they have.
+pub enum Survey {
+    Faulty,
+    Linked(usize, usize),
 }
 
 // The PDA of a block, or nil for 0.
@@ -127,54 +142,6 @@ fn walked(img: &[u8], drive: usize, s: usize, e: usize) -> Walk
     walk_from(img, drive, s, e, head)
 }
 
-// Whether block i of s+1..e is not owned.
-fn is_free(img: &[u8], drive: usize, s: usize, e: usize, i: usize) -> bool
-    requires { ⌜ (Lies drive (now img) s e) × (s + i < e) × (Unmarred (partitionOf drive s e) (view (now img))) ⌝ }
-    ensures { λ r. ⌜ r ≡ freeAt (partitionOf drive s e) (view (now (img .entry))) i ⌝ }
-{
-    !links::owned(img, drive, s, e, s + i + 1)
-}
-
-// How many blocks are not owned.
-fn count_free(img: &[u8], drive: usize, s: usize, e: usize) -> usize
-    requires { ⌜ (Lies drive (now img) s e) × (Unmarred (partitionOf drive s e) (view (now img))) ⌝ }
-    ensures { λ r. ⌜ r ≡ count (e - s) (freeAt (partitionOf drive s e) (view (now (img .entry)))) ⌝ }
-{
-    let m = e - s;
-    let mut n: usize = 0;
-    for i in 0..m {
-        if is_free(img, drive, s, e, i) {
-            n += 1;
-            continue;
-        }
-    }
-    n
-}
-
-// Whether block i of s+1..e is a file: a candidate is one where none is malformed.
-fn is_file(img: &[u8], drive: usize, s: usize, e: usize, i: usize) -> bool
-    requires { ⌜ (Lies drive (now img) s e) × (s + i < e) × (Unmarred (partitionOf drive s e) (view (now img))) ⌝ }
-    ensures { λ r. ⌜ r ≡ fileAt (partitionOf drive s e) (view (now (img .entry))) i ⌝ }
-{
-    inspect::candidate(img, drive, s, e, s + i + 1)
-}
-
-// How many files there are.
-fn count_files(img: &[u8], drive: usize, s: usize, e: usize) -> usize
-    requires { ⌜ (Lies drive (now img) s e) × (Unmarred (partitionOf drive s e) (view (now img))) ⌝ }
-    ensures { λ r. ⌜ r ≡ count (e - s) (fileAt (partitionOf drive s e) (view (now (img .entry)))) ⌝ }
-{
-    let m = e - s;
-    let mut n: usize = 0;
-    for i in 0..m {
-        if is_file(img, drive, s, e, i) {
-            n += 1;
-            continue;
-        }
-    }
-    n
-}
-
 // Whether a free chain of n blocks, which ends at `last`, is the one that the PIB has.
 fn chain_named(img: &[u8], drive: usize, s: usize, e: usize, n: usize, last: usize) -> bool
     requires { ⌜ (Lies drive (now img) s e) × (last ≤ e) ⌝ }
@@ -190,16 +157,16 @@ fn chain_named(img: &[u8], drive: usize, s: usize, e: usize, n: usize, last: usi
     image::pair(img, s, NUMBER_FREE) == n
 }
 
-// Whether the free chain has each unowned block once and no other, and the PIB names it.
-fn free_good(img: &[u8], drive: usize, s: usize, e: usize) -> bool
-    requires { ⌜ (Lies drive (now img) s e) × (Unmarred (partitionOf drive s e) (view (now img))) ⌝ }
+// Whether the free chain has each unowned block once and no other, and the PIB names it. The files have `owned` blocks.
+fn free_good(img: &[u8], drive: usize, s: usize, e: usize, owned: usize) -> bool
+    requires { ⌜ (Lies drive (now img) s e) × (Unmarred (partitionOf drive s e) (view (now img))) × (owned ≡ sum (e - s) (sizeAt (partitionOf drive s e) (view (now img)))) ⌝ }
     ensures { λ r. ⌜ r ≡ freeSound (partitionOf drive s e) (view (now (img .entry))) ⌝ }
 {
     let w = walked(img, drive, s, e);
     match w {
         Walk::Wrong(_) => false,
         Walk::Free(n, last) => {
-            if n != count_free(img, drive, s, e) {
+            if n != e - s - owned {
                 return false;
             }
             chain_named(img, drive, s, e, n, last)
@@ -207,25 +174,92 @@ fn free_good(img: &[u8], drive: usize, s: usize, e: usize) -> bool
     }
 }
 
-// Whether a partition without a malformed candidate is sound.
-pub fn is_sound(img: &[u8], drive: usize, s: usize, e: usize) -> bool
-    requires { ⌜ (Lies drive (now img) s e) × (Unmarred (partitionOf drive s e) (view (now img))) ⌝ }
-    ensures { λ r. ⌜ r ≡ sound (partitionOf drive s e) (view (now (img .entry))) ⌝ }
+// How block f stands.
+fn stands(img: &[u8], drive: usize, s: usize, e: usize, f: usize) -> Standing
+    requires { ⌜ Lies drive (now img) s e ⌝ }
+    ensures { λ r. ⌜ r ≡ standing (partitionOf drive s e) (view (now (img .entry))) f ⌝ }
 {
-    if links::files_good(img, drive, s, e) {
-        free_good(img, drive, s, e)
+    if !inspect::candidate(img, drive, s, e, f) {
+        return Standing::Other;
+    }
+    if !inspect::well_formed(img, drive, s, e, f) {
+        return Standing::Faulty;
+    }
+    let k = inspect::len(img, drive, s, e, f);
+    let p = inspect::ptrs_for(k);
+    if links::linked(img, drive, s, e, f, p, k) {
+        Standing::File(p + k + 1)
     } else {
-        false
+        Standing::Faulty
     }
 }
 
-// Files, owned blocks and free blocks of a sound partition, where NumberFree is the number of blocks that are not owned.
-fn tally(img: &[u8], drive: usize, s: usize, e: usize) -> Outcome
-    requires { ⌜ (Lies drive (now img) s e) × (Unmarred (partitionOf drive s e) (view (now img))) × (sound (partitionOf drive s e) (view (now img)) ≡ true) ⌝ }
-    ensures { λ r. ⌜ r ≡ tallied (partitionOf drive s e) (view (now (img .entry))) ⌝ }
+// One pass over the blocks.
+fn surveyed(img: &[u8], drive: usize, s: usize, e: usize) -> Survey
+    requires { ⌜ Lies drive (now img) s e ⌝ }
+    ensures { λ r. ⌜ r ≡ survey (partitionOf drive s e) (view (now (img .entry))) ⌝ }
 {
-    let free = image::pair(img, s, NUMBER_FREE);
-    Outcome::Done(count_files(img, drive, s, e), e - s - free, free)
+    let m = e - s;
+    let mut files: usize = 0;
+    let mut owned: usize = 0;
+    for i in 0..m {
+        let x = stands(img, drive, s, e, s + i + 1);
+        match x {
+            Standing::Other => {
+                continue;
+            }
+            Standing::Faulty => {
+                return Survey::Faulty;
+            }
+            Standing::File(n) => {
+                files += 1;
+                owned += n;
+            }
+        }
+    }
+    Survey::Linked(files, owned)
+}
+
+// Whether a partition is sound.
+pub fn is_sound(img: &[u8], drive: usize, s: usize, e: usize) -> bool
+    requires { ⌜ Lies drive (now img) s e ⌝ }
+    ensures { λ r. ⌜ r ≡ sound (partitionOf drive s e) (view (now (img .entry))) ⌝ }
+{
+    let x = surveyed(img, drive, s, e);
+    match x {
+        Survey::Faulty => false,
+        Survey::Linked(_, owned) => free_good(img, drive, s, e, owned),
+    }
+}
+
+// Why a partition with a faulty candidate is refused: a malformed one comes before links.
+fn faulty(img: &[u8], drive: usize, s: usize, e: usize) -> Outcome
+    requires { ⌜ (Lies drive (now img) s e) × (all (e - s) (fileTest (partitionOf drive s e) (view (now img))) ≡ false) ⌝ }
+    ensures { λ r. ⌜ r ≡ checkIn (partitionOf drive s e) (view (now (img .entry))) ⌝ }
+{
+    let x = inspect::lowest_malformed(img, drive, s, e);
+    match x {
+        Found::At(f) => Outcome::Refused(Refusal::Malformed(f)),
+        Found::Nothing => Outcome::Refused(Refusal::Unsound),
+    }
+}
+
+// Check of a good partition.
+fn check_in(img: &[u8], drive: usize, s: usize, e: usize) -> Outcome
+    requires { ⌜ Lies drive (now img) s e ⌝ }
+    ensures { λ r. ⌜ r ≡ checkIn (partitionOf drive s e) (view (now (img .entry))) ⌝ }
+{
+    let x = surveyed(img, drive, s, e);
+    match x {
+        Survey::Faulty => faulty(img, drive, s, e),
+        Survey::Linked(files, owned) => {
+            if free_good(img, drive, s, e, owned) {
+                Outcome::Done(files, owned, e - s - owned)
+            } else {
+                Outcome::Refused(Refusal::Unsound)
+            }
+        }
+    }
 }
 
 // Check, a public call: files, owned blocks and free blocks, or why it is refused.
@@ -235,18 +269,6 @@ pub fn check(img: &[u8], drive: usize, s: usize) -> Outcome
     let p = inspect::partition(img, drive, s);
     match p {
         Part::Refused(why) => Outcome::Refused(why),
-        Part::Good(e) => {
-            let x = inspect::lowest_malformed(img, drive, s, e);
-            match x {
-                Found::At(f) => Outcome::Refused(Refusal::Malformed(f)),
-                Found::Nothing => {
-                    if is_sound(img, drive, s, e) {
-                        tally(img, drive, s, e)
-                    } else {
-                        Outcome::Refused(Refusal::Unsound)
-                    }
-                }
-            }
-        }
+        Part::Good(e) => check_in(img, drive, s, e),
     }
 }

@@ -12,6 +12,7 @@ use Rattle.drive.specs.Address.{pda, pdaBlock, lda, ldaBlock}
 use Rattle.drive.specs.Laws.{pda-back, lda-back}
 use Rattle.image.specs.View.{upd-same, upd-other, View, upd, pair}
 use Rattle.base.specs.Laws.{and-left, and-right, and-both, all-at, all-of, all-same, pick-same, every-at, both-left, both-right, both-of, iff-eq}
+use Rattle.volume.specs.Words.{relativeAt}
 use Rattle.volume.specs.Files.{Partition, isLda, ptrIndex, ptrSlot, ptrTest, dataTest, nilTest, indexed, restNil, numbered, reach, inside, serial, candidate, len, ptrsFor, ptrs, indirect, ptr, entry, name, names, nth, size, wellFormed, isFile, placeOf, place, fileOf, owned, files, unowned}
 use Rattle.volume.specs.Frame.{SameHead, same-serial, Shape, Kept, kept-len, kept-ptrs, kept-nth, kept-size, kept-head, kept-wellFormed}
 use Rattle.volume.specs.Owned.{Own, own, owned-by, member, member-owned, file-back, place-back, few-ptrs, Member}
@@ -70,7 +71,7 @@ module _ (π : Partition) where
     unfolding place
     agree-place b h =
         ap₂ (λ (p r : ℕ). placeOf p r) (kept-ptrs π v v′ _ (a .shape _ (cand _ (own π v b h .file)))) (agree-head b h .rel)
-        ∙ ap (λ (f : ℕ). placeOf (ptrs π v′ f) (v′ b 2)) (agree-fileOf b h)
+        ∙ ap (λ (f : ℕ). placeOf (ptrs π v′ f) (v′ b relativeAt)) (agree-fileOf b h)
 
     agree-owned₁ : (b : ℕ) → owned π v b ≡ true → owned π v′ b ≡ true
     agree-owned₁ b h =

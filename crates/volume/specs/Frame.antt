@@ -12,6 +12,7 @@ use Rattle.base.specs.Tests.{pick, both, every, all, count, those}
 use Rattle.drive.specs.Address.{pda, pdaBlock, lda, ldaBlock}
 use Rattle.image.specs.View.{upd-same, upd-other, View, Rec, upd, pair}
 use Rattle.base.specs.Laws.{and-left, and-right, and-both, all-at, all-of, all-same, pick-same, cons-same}
+use Rattle.volume.specs.Words.{slotAt}
 use Rattle.volume.specs.Files.{Partition, isLda, ptrIndex, ptrSlot, ptrTest, dataTest, nilTest, indexed, restNil, numbered, reach, inside, serial, candidate, len, ptrsFor, ptrs, indirect, ptr, entry, name, names, nth, size, wellFormed, isFile, placeOf, place, fileOf, owned}
 
 -- two records with the same serial and relative number
@@ -37,7 +38,7 @@ module _ (π : Partition) (v v′ : View) (f : ℕ) where
     pub ptrHead : (p : ℕ) → p < ptrs π v f → SameHead (v (ptr π v f p)) (v′ (ptr π v f p))
     pub dataHead : (r : ℕ) → r < len π v f → SameHead (v (name π v f r)) (v′ (name π v f r))
     pub slots : (r : ℕ) → r < len π v f → 64 ≤ r
-        → pair v (ptr π v f (ptrIndex r)) (8 + 2 * ptrSlot r) ≡ pair v′ (ptr π v f (ptrIndex r)) (8 + 2 * ptrSlot r)
+        → pair v (ptr π v f (ptrIndex r)) (slotAt (ptrSlot r)) ≡ pair v′ (ptr π v f (ptrIndex r)) (slotAt (ptrSlot r))
 
   -- its form, its description and its bytes
   pub record Kept : Type 0 where
@@ -75,7 +76,7 @@ module _ (π : Partition) (v v′ : View) (f : ℕ) where
     pub kept-entry : (r : ℕ) → r < len π v f → entry π v f r ≡ entry π v′ f r
     unfolding entry
     kept-entry r h = pick-same (ltb r 64) (λ _. fibPair (60 + 2 * r) (omega arith))
-        (λ n. k .slots r h (ltb-false r 64 n) ∙ ap (λ (q : ℕ). pair v′ q (8 + 2 * ptrSlot r)) (kept-ptr (ptrIndex r)))
+        (λ n. k .slots r h (ltb-false r 64 n) ∙ ap (λ (q : ℕ). pair v′ q (slotAt (ptrSlot r))) (kept-ptr (ptrIndex r)))
 
     pub kept-name : (r : ℕ) → r < len π v f → name π v f r ≡ name π v′ f r
     unfolding name

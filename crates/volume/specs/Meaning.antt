@@ -11,6 +11,7 @@ use borrow.Author.Tests.{ltb-true, ltb-false, eqb-true, eqb-false}
 use Rattle.base.specs.Tests.{pick, both, every}
 use Rattle.base.specs.Laws.{both-left, both-right, every-at}
 use Rattle.image.specs.View.{View}
+use Rattle.volume.specs.Words.{relativeAt}
 use Rattle.volume.specs.Files.{Partition, candidate, wellFormed, isFile, nth, size, ptrs, len, owned, fileOf, place}
 use Rattle.volume.specs.Owned.{Own, own, member, member-owned, file-back, place-back, relAt, few-ptrs, wf-of}
 
@@ -53,7 +54,7 @@ module _ (π : Partition) (v : View) where
   pub named-no-candidate : (f i b : ℕ) → Names f i b → i ≢ ptrs π v f → candidate π v b ≡ true → ⊥
   unfolding candidate relAt size
   named-no-candidate f i b n ne c =
-      go (ltb i p) refl (eqb i p) refl (sym (member π v f cf wf i (n .here) .num) ∙ ap (λ (x : ℕ). v x 2) (n .is) ∙ eqb-true _ _ (every-at _ c 2))
+      go (ltb i p) refl (eqb i p) refl (sym (member π v f cf wf i (n .here) .num) ∙ ap (λ (x : ℕ). v x relativeAt) (n .is) ∙ eqb-true _ _ (every-at _ c 2))
     where
       p : ℕ
       p = ptrs π v f

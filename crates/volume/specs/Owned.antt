@@ -13,6 +13,7 @@ use Rattle.drive.specs.Address.{pda, pdaBlock, lda, ldaBlock}
 use Rattle.drive.specs.Laws.{pda-back, lda-back}
 use Rattle.image.specs.View.{upd-same, upd-other, View, upd, pair}
 use Rattle.base.specs.Laws.{and-left, and-right, and-both, all-at, all-of, all-same, pick-same, every-at, both-left, both-right, both-of, iff-eq, cons-same}
+use Rattle.volume.specs.Words.{directAt, doubleAt, doubleAt′, inUseAt, indirectAt, lastAddressAt, lowAddressAt, lowNumberAt, relativeAt, serialAt}
 use Rattle.volume.specs.Files.{Partition, isLda, ptrIndex, ptrSlot, ptrTest, dataTest, nilTest, indexed, restNil, numbered, reach, inside, serial, candidate, len, ptrsFor, ptrs, indirect, ptr, entry, name, names, nth, size, wellFormed, isFile, placeOf, place, fileOf, owned}
 use Rattle.volume.specs.Frame.{SameHead, same-serial, Kept, kept-len, kept-ptrs, kept-nth, kept-size, kept-head, kept-wellFormed}
 
@@ -30,7 +31,7 @@ place-data p r h =
 module _ (π : Partition) (v : View) where
   -- what it is to be owned
   pub record Own (b f i : ℕ) : Type 0 where
-    pub ser : pair v b 0 ≡ pda (π .drive) f
+    pub ser : pair v b serialAt ≡ pda (π .drive) f
     pub file : isFile π v f ≡ true
     pub here : i < size π v f
     pub back : nth π v f i ≡ b
@@ -94,22 +95,22 @@ module _ (π : Partition) (v : View) (f : ℕ) where
   -- block b is f's, with relative number rel
   pub record Member (b rel : ℕ) : Type 0 where
     pub ins : inside π b ≡ true
-    pub ser : pair v b 0 ≡ pda (π .drive) f
-    pub num : v b 2 ≡ rel
+    pub ser : pair v b serialAt ≡ pda (π .drive) f
+    pub num : v b relativeAt ≡ rel
 
   -- well formed, field by field
   pub record WF : Type 0 where
     pub short : len π v f ≤ 4160
     pub ptrsOk : (p : ℕ) → p < ptrs π v f → names π v f (indirect π v f p) (65532 - p) ≡ true
     pub dataOk : (r : ℕ) → r < len π v f → names π v f (entry π v f r) r ≡ true
-    pub directNil : (r : ℕ) → len π v f ≤ r → r < 64 → pair v f (60 + 2 * r) ≡ 0
-    pub indirectNil : (i : ℕ) → ptrs π v f ≤ i → i < 32 → pair v f (188 + 2 * i) ≡ 0
-    pub doubleNil : pair v f 252 ≡ 0
-    pub doubleNil′ : pair v f 254 ≡ 0
-    pub inUse : v f 257 ≡ ptrs π v f + suc (len π v f)
-    pub lastIs : pair v f 259 ≡ lda (π .drive) (nth π v f (ptrs π v f + len π v f))
-    pub lowNumber : v f 261 ≡ pick (eqb (ptrs π v f) 0) 65535 (65533 - ptrs π v f)
-    pub lowIs : pair v f 262 ≡ lda (π .drive) (nth π v f 0)
+    pub directNil : (r : ℕ) → len π v f ≤ r → r < 64 → pair v f (directAt r) ≡ 0
+    pub indirectNil : (i : ℕ) → ptrs π v f ≤ i → i < 32 → pair v f (indirectAt i) ≡ 0
+    pub doubleNil : pair v f doubleAt ≡ 0
+    pub doubleNil′ : pair v f doubleAt′ ≡ 0
+    pub inUse : v f inUseAt ≡ ptrs π v f + suc (len π v f)
+    pub lastIs : pair v f lastAddressAt ≡ lda (π .drive) (nth π v f (ptrs π v f + len π v f))
+    pub lowNumber : v f lowNumberAt ≡ pick (eqb (ptrs π v f) 0) 65535 (65533 - ptrs π v f)
+    pub lowIs : pair v f lowAddressAt ≡ lda (π .drive) (nth π v f 0)
 
   pub wf-of : wellFormed π v f ≡ true → WF
   unfolding wellFormed indexed restNil numbered
@@ -161,14 +162,14 @@ module _ (π : Partition) (v : View) (f : ℕ) where
   unfolding names
   member-of x rel h = record { ins = every-at _ h 1; ser = eqb-true _ _ (every-at _ h 2); num = eqb-true _ _ (every-at _ h 3) }
 
-  pub names-rel : (x rel : ℕ) → names π v f x rel ≡ true → v ((ldaBlock (π .drive)) x) 2 ≡ rel
+  pub names-rel : (x rel : ℕ) → names π v f x rel ≡ true → v ((ldaBlock (π .drive)) x) relativeAt ≡ rel
   names-rel x rel h = member-of x rel h .num
 
   -- block b, with f's serial and the number rel, is what its LDA names
-  pub names-own : (b rel : ℕ) → inside π b ≡ true → pair v b 0 ≡ pda (π .drive) f → v b 2 ≡ rel → names π v f (lda (π .drive) b) rel ≡ true
+  pub names-own : (b rel : ℕ) → inside π b ≡ true → pair v b serialAt ≡ pda (π .drive) f → v b relativeAt ≡ rel → names π v f (lda (π .drive) b) rel ≡ true
   unfolding names every
   names-own b rel i q n =
-      ap (λ (x : ℕ). every (isLda π (lda (π .drive) b) x ∷ inside π x ∷ eqb (pair v x 0) (pda (π .drive) f) ∷ eqb (v x 2) rel ∷ [])) (lda-back (π .drive) b)
+      ap (λ (x : ℕ). every (isLda π (lda (π .drive) b) x ∷ inside π x ∷ eqb (pair v x serialAt) (pda (π .drive) f) ∷ eqb (v x relativeAt) rel ∷ [])) (lda-back (π .drive) b)
       ∙ ap every (cons-same (eq-eqb (lda (π .drive) b) (lda (π .drive) b) refl) (cons-same i (cons-same (eq-eqb _ _ q) (cons-same {l = []} (eq-eqb _ _ n) refl))))
 
   -- the relative number at place i

@@ -17,6 +17,7 @@ use Rattle.base.specs.Laws.{every-at, both-left, both-right, all-at}
 use Rattle.volume.specs.Files.{Partition, ptrIndex, ptrSlot, inside, candidate, len, ptrsFor, ptrs, indirect, ptr, entry, name, names, nth, wellFormed, isFile}
 use Rattle.volume.specs.Owned.{nth-data, nth-fib, nth-ptr}
 use Rattle.drive.specs.Laws.{blocks-few}
+use Rattle.volume.specs.Words.{directAt, slotAt}
 use Rattle.volume.specs.Answers.{imageGood, partGood, endOf, partition}
 use Rattle.volume.specs.declared.Part.{Part}
 use Rattle.volume.specs.declared.Part.the-variants.{Good, Refused}
@@ -30,18 +31,18 @@ module _ (π : Partition) (v : View) (f : ℕ) where
   unfolding names
   names-in x rel h = inside-of π ((ldaBlock (π .drive)) x) (every-at _ h 1) .1
 
-  pub entry-direct : (r : ℕ) → r < 64 → entry π v f r ≡ pair v f (60 + 2 * r)
+  pub entry-direct : (r : ℕ) → r < 64 → entry π v f r ≡ pair v f (directAt r)
   unfolding entry
   entry-direct r h = rw (lt-ltb r 64 h, entry)
 
-  pub entry-far : (r : ℕ) → 64 ≤ r → entry π v f r ≡ pair v (ptr π v f ((r - 64) / 128)) (8 + 2 * ((r - 64) % 128))
+  pub entry-far : (r : ℕ) → 64 ≤ r → entry π v f r ≡ pair v (ptr π v f ((r - 64) / 128)) (slotAt ((r - 64) % 128))
   unfolding entry
   entry-far r h = rw (le-ltb r 64 h, entry)
 
-  pub entry-at : (i j : ℕ) → j < 128 → entry π v f (64 + 128 * i + j) ≡ pair v (ptr π v f i) (8 + 2 * j)
+  pub entry-at : (i j : ℕ) → j < 128 → entry π v f (64 + 128 * i + j) ≡ pair v (ptr π v f i) (slotAt j)
   entry-at i j h =
       entry-far (64 + 128 * i + j) (omega arith)
-      ∙ ap₂ (λ (a b : ℕ). pair v (ptr π v f a) (8 + 2 * b))
+      ∙ ap₂ (λ (a b : ℕ). pair v (ptr π v f a) (slotAt b))
       (ap (λ (x : ℕ). x / 128) form ∙ digits-div i h) (ap (λ (x : ℕ). x % 128) form ∙ digits-mod i h)
     where
       form : 64 + 128 * i + j - 64 ≡ i * 128 + j

@@ -50,7 +50,7 @@ fn append_open(
     let g = choose(grows, z, q);
     let old = inspect::nth(img, drive, s, e, f, p, k, p + k);
     let top = inspect::nth(img, drive, s, e, f, p, k, 0);
-    let made = records::append::append_store(
+    let made = append::append_store(
         img,
         drive,
         s,

@@ -3,6 +3,7 @@
 
 #![deny(unsafe_code)]
 
+pub mod batch_data;
 pub mod both;
 pub mod call;
 pub mod cuts;

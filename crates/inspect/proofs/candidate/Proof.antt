@@ -1,10 +1,10 @@
 use mathlib.Core.Path.{sym, _∙_}
-use borrow.Author.Tests.{lt-ltb, le-ltb, le-leb, lt-leb}
+use borrow.Author.Tests.{lt-ltb, le-ltb, le-leb, lt-leb, not-true, not-false}
 use Rattle.base.specs.Tests.{both, every}
 use Rattle.drive.specs.Address.{pda}
 use Rattle.image.specs.View.{pair}
 use Rattle.volume.specs.Files.{inside, candidate}
-use Rattle.volume.specs.Steps.{every-no, both-no, both-no-2, ne-of, eq-of, and-true}
+use Rattle.volume.specs.Steps.{every-no, both-no, both-no-2, and-true}
 use borrow.Author.Needs.{needs}
 use Rattle.inspect.proofs.candidate.Statement.{statement}
 use Rattle.inspect.proofs.candidate.Tie as tie
@@ -19,13 +19,13 @@ returns-2 c = sym (every-no _ 0 (both-no-2 _ _ (lt-leb _ _ (c .if2 .taken))))
 
 returns-3 : tie.Need-returns-3
 unfolding candidate
-returns-3 c = sym (every-no _ 1 (ne-of (c .before .before .pair .ensures .0) (c .before .pda .ensures) (c .if3 .taken)))
+returns-3 c = sym (every-no _ 2 (sym (c .before .has-number .ensures) ∙ not-true _ (c .if3 .taken)))
 
 returns-4 : tie.Need-returns-4
 unfolding candidate inside both every
-returns-4 c = rw (lt-ltb _ _ (c .before .before .before .before .before .if1 .left), le-leb _ _ (c .before .before .before .before .if2 .left), eq-of (c .before .before .before .pair .ensures .0) (c .before .before .pda .ensures) (c .before .if3 .left)) (c .has-number .ensures ∙ sym (and-true _))
+returns-4 c = rw (lt-ltb _ _ (c .before .before .before .before .before .if1 .left), le-leb _ _ (c .before .before .before .before .if2 .left), sym (c .before .before .before .has-number .ensures) ∙ not-false _ (c .before .before .if3 .left), c .before .pair .ensures .0, c .pda .ensures) (sym (and-true _))
 
 pub candidate-spec : {M : Type 1} → statement M
 candidate-spec =
     tie.close
-    (tie.spec returns returns-2 (λ c κs. search needs) (λ c κs. search needs) returns-3 (λ c κs. search needs) returns-4)
+    (tie.spec returns returns-2 (λ c κs. search needs) returns-3 (λ c κs. search needs) (λ c κs. search needs) returns-4)

@@ -1,0 +1,40 @@
+use Prim.Native.Nat.{_+_, _-_}
+use native.Mathlib.Omega.{arith}
+use Rattle.image.specs.Image.{view}
+use Rattle.volume.specs.Files.{partitionOf, isFile}
+use Rattle.volume.specs.Answers.{fileAbove}
+use Rattle.volume.specs.Steps.{Searching, search-starts-as, searches, lowest-nothing}
+use Rattle.listing.proofs.file_above.Statement.{statement}
+use Rattle.listing.proofs.file_above.Tie as tie
+
+abbrev Inv-loop : tie.InvT-loop
+Inv-loop img drive s e b a end f₀ f = Searching (isFile (partitionOf drive s e) (view img)) (e + 1) f (fileAbove (partitionOf drive s e) (view img) b)
+
+abbrev μ-loop : tie.MeasureT-loop
+μ-loop img drive s e b a end f₀ f = e + 1 - f
+
+returns : tie.Need-returns Inv-loop μ-loop
+unfolding fileAbove
+returns c = rw (← c .before .most .ensures) (lowest-nothing _ _ _ (omega arith))
+
+loop-holds : tie.Need-loop-holds Inv-loop μ-loop
+unfolding fileAbove
+loop-holds c = rw (← c .before .most .ensures) (search-starts-as _ _ _ _ (omega arith))
+
+pub file-above-spec : {M : Type 1} → statement M
+file-above-spec =
+    tie.close
+    (tie.spec
+    Inv-loop
+    μ-loop
+    (λ c κs. search searches)
+    returns
+    (λ c. search searches)
+    (λ c. search searches)
+    loop-holds
+    (λ c κs. search searches)
+    (λ c. search searches)
+    (λ c. search searches)
+    (λ c. search searches)
+    (λ c. search searches)
+    (λ c. search searches))

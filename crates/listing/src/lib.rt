@@ -1,0 +1,65 @@
+// The files of a partition one after the other: the call next file.
+ghost use mathlib.Core.Path.{_≡_};
+ghost use lib.Dec.{ltb};
+ghost use Rattle.base.specs.Tests.{pick};
+ghost use Rattle.image.specs.Image.{view};
+ghost use Rattle.volume.specs.Files.{partitionOf, isFile};
+ghost use Rattle.volume.specs.Answers.{fileAbove, nextFile};
+ghost use Rattle.volume.specs.Reads.{Lies};
+use volume::Found;
+use volume::Outcome;
+use volume::Part;
+
+// Whether f is a file.
+fn is_file(img: &[u8], drive: usize, s: usize, e: usize, f: usize) -> bool
+    requires { ⌜ Lies drive (now img) s e ⌝ }
+    ensures { λ r. ⌜ r ≡ isFile (partitionOf drive s e) (view (now (img .entry))) f ⌝ }
+{
+    if inspect::candidate(img, drive, s, e, f) {
+        inspect::well_formed(img, drive, s, e, f)
+    } else {
+        false
+    }
+}
+
+// The larger of two numbers.
+fn most(a: usize, b: usize) -> usize
+    ensures { λ r. ⌜ r ≡ pick (ltb a b) b a ⌝ }
+{
+    if a < b { b } else { a }
+}
+
+// The lowest file above b.
+fn file_above(img: &[u8], drive: usize, s: usize, e: usize, b: usize) -> Found
+    requires { ⌜ Lies drive (now img) s e ⌝ }
+    ensures { λ r. ⌜ r ≡ fileAbove (partitionOf drive s e) (view (now (img .entry))) b ⌝ }
+{
+    let a = most(b, s);
+    if e <= a {
+        return Found::Nothing;
+    }
+    let end = e + 1;
+    for f in a + 1..end {
+        if is_file(img, drive, s, e, f) {
+            return Found::At(f);
+        }
+    }
+    Found::Nothing
+}
+
+// Next file, a public call: the lowest file above a block.
+pub fn next_file(img: &[u8], drive: usize, s: usize, after: usize) -> Outcome
+    ensures { λ r. ⌜ r ≡ nextFile drive (now (img .entry)) s after ⌝ }
+{
+    let p = inspect::partition(img, drive, s);
+    match p {
+        Part::Good(e) => {
+            let x = file_above(img, drive, s, e, after);
+            match x {
+                Found::At(f) => Outcome::Done(f, 0, 0),
+                Found::Nothing => Outcome::Absent,
+            }
+        }
+        Part::Refused(why) => Outcome::Refused(why),
+    }
+}

@@ -1,0 +1,226 @@
+-- One pass over the blocks: what a block's standing says, the pass so far, and what its end gives. Assumes nothing.
+use mathlib.Core.Path.{_≡_, refl, sym, ap, _∙_}
+use mathlib.Core.Bool.{Bool, true, false, not, true≢false, false≢true}
+use Prim.Native.Nat.{ℕ, zero, suc, _+_, _-_, _*_, _≤_, _<_}
+use native.Mathlib.Omega.{arith}
+use native.Mathlib.Numerals.{add-one}
+use Rattle.base.specs.Tests.{pick, both, all, count}
+use Rattle.base.specs.Laws.{both-left, both-right, both-of, all-at}
+use Rattle.base.specs.Sums.{sum}
+use Rattle.image.specs.View.{View}
+use Rattle.volume.specs.Files.{Partition, blockAt, candidate, wellFormed, linked, isFile, isMalformed, size, fileTest, owned, freeSound, sound}
+use Rattle.volume.specs.Answers.{lowest, lowestMalformed, Unmarred, checkIn, tallied}
+use Rattle.volume.specs.Owned.{wf-of, few-ptrs}
+use Rattle.volume.specs.Steps.{both-no}
+use Rattle.volume.specs.declared.Found.{Found}
+use Rattle.volume.specs.declared.Found.the-variants.{At, Nothing}
+use Rattle.volume.specs.declared.Outcome.the-variants.{Done, Refused}
+use Rattle.base.specs.declared.Refusal.the-variants.{Malformed, Unsound}
+use Rattle.verify.specs.Walks.{freeAt}
+use Rattle.verify.specs.Survey.{fileAt, sizeAt, standing, survey}
+use Rattle.verify.specs.declared.Standing.{Standing}
+use Rattle.verify.specs.declared.Standing.the-variants as stands
+use Rattle.verify.specs.declared.Survey.{Survey}
+use Rattle.verify.specs.declared.Survey.the-variants as found
+use Rattle.verify.proofs.Counts.{count-both}
+use Rattle.verify.proofs.Sizes.{owned-sizes}
+
+-- a standing, by its two tests, and back
+abbrev told : Bool → Bool → ℕ → Standing
+told c w n = pick c (pick w (stands.File n) stands.Faulty) stands.Other
+
+told-other : (c w : Bool) (n : ℕ) → told c w n ≡ stands.Other → c ≡ false
+told-other false w n q = refl
+told-other true true n q = let z : _≡_ {A = ℕ} 0 1 = cc in absurd (omega arith)
+told-other true false n q = let z : _≡_ {A = ℕ} 0 1 = cc in absurd (omega arith)
+
+told-faulty : (c w : Bool) (n : ℕ) → told c w n ≡ stands.Faulty → (c ≡ true) × (w ≡ false)
+told-faulty true false n q = (refl, refl)
+told-faulty true true n q = let z : _≡_ {A = ℕ} 0 1 = cc in absurd (omega arith)
+told-faulty false w n q = let z : _≡_ {A = ℕ} 0 1 = cc in absurd (omega arith)
+
+told-file : (c w : Bool) (n k : ℕ) → told c w n ≡ stands.File k → (c ≡ true) × (w ≡ true) × (k ≡ n)
+told-file true true n k q = let z : n ≡ k = cc in (refl, refl, sym z)
+told-file true false n k q = let z : _≡_ {A = ℕ} 0 1 = cc in absurd (omega arith)
+told-file false w n k q = let z : _≡_ {A = ℕ} 0 1 = cc in absurd (omega arith)
+
+-- a malformed candidate is the lowest of some
+lowest-of : (P : ℕ → Bool) (n a : ℕ) → ((x : ℕ) → a ≤ x → x < a + n → P x ≡ false) → lowest P a n ≡ Nothing
+unfolding lowest
+lowest-of P zero a h = refl
+lowest-of P (suc n) a h = rw (h a (omega arith) (omega arith), lowest) (lowest-of P n (a + 1) (λ x l m. h x (omega arith) (omega arith)))
+
+module _ (π : Partition) (v : View) where
+  module _ (f : ℕ) where
+    pub stands-other : candidate π v f ≡ false → stands.Other ≡ standing π v f
+    unfolding standing
+    stands-other c = sym (rw (c, standing))
+
+    pub stands-faulty : candidate π v f ≡ true → both (wellFormed π v f) (linked π v f) ≡ false → stands.Faulty ≡ standing π v f
+    unfolding standing
+    stands-faulty c w = sym (rw (c, w, standing))
+
+    pub stands-file : (n : ℕ) → candidate π v f ≡ true → wellFormed π v f ≡ true → linked π v f ≡ true → n ≡ size π v f → stands.File n ≡ standing π v f
+    unfolding standing
+    stands-file n c w l q = sym (rw (c, both-of w l, q, standing))
+
+  -- a file's size
+  pub size-few : (f : ℕ) → candidate π v f ≡ true → wellFormed π v f ≡ true → size π v f ≤ 4193
+  unfolding size
+  size-few f c w = omega (arith, few-ptrs π v f c w, wf-of π v f w .short)
+
+  -- the pass before block i of s+1..e
+  pub record Passed (i files owned : ℕ) : Type 0 where
+    pub good : all i (fileTest π v) ≡ true
+    pub many : files ≡ count i (fileAt π v)
+    pub few : files ≤ i
+    pub blocks : owned ≡ sum i (sizeAt π v)
+    pub short : owned ≤ 4193 * i
+
+  pub pass-starts : Passed 0 0 0
+  unfolding all count sum
+  pass-starts = record { good = refl; many = refl; few = omega arith; blocks = refl; short = omega arith }
+
+  -- the block's tests, by how it stands
+  module _ (i f : ℕ) (hf : f ≡ blockAt π i) {x : Standing} (hx : x ≡ standing π v f) where
+    abbrev b : ℕ
+    b = blockAt π i
+
+    abbrev form : Bool
+    form = both (wellFormed π v b) (linked π v b)
+
+    at-i : x ≡ told (candidate π v b) form (size π v b)
+    unfolding standing
+    at-i = hx ∙ ap (standing π v) hf
+
+    pub pass-other : (files owned : ℕ) → x ≡ stands.Other → Passed i files owned → Passed (i + 1) files owned
+    unfolding all count sum isFile both
+    pass-other files owned q p =
+        let c = told-other (candidate π v b) form (size π v b) (sym at-i ∙ q) in
+        rw (add-one i) (record {
+          good = rw c (p .good);
+          many = rw c (omega (arith, p .many));
+          few = omega (arith, p .few);
+          blocks = rw c (omega (arith, p .blocks));
+          short = omega (arith, p .short);
+        })
+
+    pub pass-file : (files owned n : ℕ) → x ≡ stands.File n → Passed i files owned → Passed (i + 1) (files + 1) (owned + n)
+    unfolding all count sum isFile both
+    pass-file files owned n q p =
+        let t = told-file (candidate π v b) form (size π v b) n (sym at-i ∙ q) in
+        let c : candidate π v b ≡ true = t .0 in
+        let w : wellFormed π v b ≡ true = both-left (wellFormed π v b) (linked π v b) (t .1) in
+        let l : linked π v b ≡ true = both-right (wellFormed π v b) (linked π v b) (t .1) in
+        rw (add-one i) (record {
+          good = rw (c, w, l) (p .good);
+          many = rw (c, w) (omega (arith, p .many));
+          few = omega (arith, p .few);
+          blocks = rw (c, w) (omega (arith, p .blocks, t .2));
+          short = omega (arith, p .short, t .2, size-few b c w);
+        })
+
+    pub file-short : (n : ℕ) → x ≡ stands.File n → n ≤ 4193
+    file-short n q =
+        let t = told-file (candidate π v b) form (size π v b) n (sym at-i ∙ q) in
+        omega (arith, t .2, size-few b (t .0) (both-left (wellFormed π v b) (linked π v b) (t .1)))
+
+    test-faulty : x ≡ stands.Faulty → fileTest π v i ≡ false
+    test-faulty q = let t = told-faulty (candidate π v b) form (size π v b) (sym at-i ∙ q) in rw (t .0, t .1)
+
+    pub pass-faulty : x ≡ stands.Faulty → i < π.e - π.s → found.Faulty ≡ survey π v
+    unfolding survey
+    pass-faulty q l = sym (rw (go (all (π.e - π.s) (fileTest π v)) refl, survey))
+      where
+        go : (t : Bool) → all (π.e - π.s) (fileTest π v) ≡ t → t ≡ false
+        go false z = refl
+        go true z = absurd (true≢false (sym (all-at (π.e - π.s) (fileTest π v) z i l) ∙ test-faulty q))
+
+  pub pass-ends : (files owned : ℕ) → Passed (π.e - π.s) files owned → found.Linked files owned ≡ survey π v
+  unfolding survey
+  pass-ends files owned p = sym (rw (p .good, ← p .many, ← p .blocks, survey))
+
+  -- what the pass found, by the test of all blocks, and back
+  abbrev seen : Bool → ℕ → ℕ → Survey
+  seen t a b = pick t (found.Linked a b) found.Faulty
+
+  seen-linked : (t : Bool) (a b x y : ℕ) → seen t a b ≡ found.Linked x y → (t ≡ true) × (x ≡ a) × (y ≡ b)
+  seen-linked true a b x y q = let z : a ≡ x = cc in let w : b ≡ y = cc in (refl, sym z, sym w)
+  seen-linked false a b x y q = let z : _≡_ {A = ℕ} 0 1 = cc in absurd (omega arith)
+
+  seen-faulty : (t : Bool) (a b : ℕ) → seen t a b ≡ found.Faulty → t ≡ false
+  seen-faulty false a b q = refl
+  seen-faulty true a b q = let z : _≡_ {A = ℕ} 0 1 = cc in absurd (omega arith)
+
+  -- every candidate a linked file, so many files, and so many blocks
+  pub record Sums (files owned : ℕ) : Type 0 where
+    pub good : all (π.e - π.s) (fileTest π v) ≡ true
+    pub many : files ≡ count (π.e - π.s) (fileAt π v)
+    pub blocks : owned ≡ sum (π.e - π.s) (sizeAt π v)
+
+  pub linked-sums : {x : Survey} (files owned : ℕ) → x ≡ survey π v → x ≡ found.Linked files owned → Sums files owned
+  unfolding survey
+  linked-sums files owned h q = let t = seen-linked _ _ _ _ _ (sym h ∙ q) in record { good = t .0; many = t .1; blocks = t .2 }
+
+  pub faulty-test : {x : Survey} → x ≡ survey π v → x ≡ found.Faulty → all (π.e - π.s) (fileTest π v) ≡ false
+  unfolding survey
+  faulty-test h q = seen-faulty _ _ _ (sym h ∙ q)
+
+  -- no candidate is malformed where each is a linked file
+  pub good-unmarred : all (π.e - π.s) (fileTest π v) ≡ true → Unmarred π v
+  unfolding lowestMalformed isMalformed both
+  good-unmarred h = lowest-of (isMalformed π v) (π.e - π.s) (π.s + 1) none
+    where
+      at : (i : ℕ) → (c : Bool) → candidate π v (blockAt π i) ≡ c → (w : Bool) → wellFormed π v (blockAt π i) ≡ w → fileTest π v i ≡ true → both c (not w) ≡ false
+      at i false q w r t = refl
+      at i true q true r t = refl
+      at i true q false r t = absurd (false≢true (sym (rw (q, r)) ∙ t))
+
+      none : (x : ℕ) → π.s + 1 ≤ x → x < π.s + 1 + (π.e - π.s) → isMalformed π v x ≡ false
+      none x l m =
+          let i : ℕ = x - suc π.s in
+          let z : blockAt π i ≡ x = omega arith in
+          ap (isMalformed π v) (sym z) ∙ at i _ refl _ refl (all-at (π.e - π.s) (fileTest π v) h i (omega arith))
+
+  pub sound-unmarred : sound π v ≡ true → Unmarred π v
+  unfolding sound
+  sound-unmarred h = good-unmarred (both-left _ _ h)
+
+  -- the blocks that no file has are free
+  pub free-rest : (owned : ℕ) → owned ≡ sum (π.e - π.s) (sizeAt π v) → (owned ≤ π.e - π.s) × (π.e - π.s - owned ≡ count (π.e - π.s) (freeAt π v))
+  free-rest n q = let a = count-both (π.e - π.s) (λ i. owned π v (blockAt π i)) in let b = owned-sizes π v in (omega arith, omega arith)
+
+  pub tallied-is : (files owned : ℕ) → Sums files owned → Done files owned (π.e - π.s - owned) ≡ tallied π v
+  unfolding tallied
+  tallied-is files n p = rw (free-rest n (p .blocks) .1, p .many, p .blocks, ← owned-sizes π v)
+
+  -- check, by what the pass found
+  pub check-faulty-at : all (π.e - π.s) (fileTest π v) ≡ false → (f : ℕ) {x : Found} → x ≡ lowestMalformed π v → x ≡ At f → Refused (Malformed f) ≡ checkIn π v
+  unfolding checkIn
+  check-faulty-at h f a q = sym (rw (sym a ∙ q, checkIn))
+
+  sound-no : all (π.e - π.s) (fileTest π v) ≡ false → sound π v ≡ false
+  unfolding sound
+  sound-no h = both-no _ _ h
+
+  pub check-faulty : all (π.e - π.s) (fileTest π v) ≡ false → {x : Found} → x ≡ lowestMalformed π v → x ≡ Nothing → Refused Unsound ≡ checkIn π v
+  unfolding checkIn
+  check-faulty h a q = sym (rw (sym a ∙ q, sound-no h, checkIn))
+
+  sound-free : all (π.e - π.s) (fileTest π v) ≡ true → sound π v ≡ freeSound π v
+  unfolding sound both
+  sound-free h = rw (h, sound)
+
+  pub check-sound : (files owned : ℕ) → Sums files owned → freeSound π v ≡ true → Done files owned (π.e - π.s - owned) ≡ checkIn π v
+  unfolding checkIn
+  check-sound files n p h = sym (rw (good-unmarred (p .good), sound-free (p .good) ∙ h, checkIn) (sym (tallied-is files n p)))
+
+  pub check-unsound : (files owned : ℕ) → Sums files owned → freeSound π v ≡ false → Refused Unsound ≡ checkIn π v
+  unfolding checkIn
+  check-unsound files n p h = sym (rw (good-unmarred (p .good), sound-free (p .good) ∙ h, checkIn))
+
+  pub sound-faulty : all (π.e - π.s) (fileTest π v) ≡ false → false ≡ sound π v
+  sound-faulty h = sym (sound-no h)
+
+  pub sound-linked : {r : Bool} → all (π.e - π.s) (fileTest π v) ≡ true → r ≡ freeSound π v → r ≡ sound π v
+  sound-linked h q = q ∙ sym (sound-free h)
