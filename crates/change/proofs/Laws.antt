@@ -16,7 +16,7 @@ use Rattle.image.specs.View.{View, Rec, pair}
 use Rattle.image.specs.Image.{view}
 use Rattle.image.specs.Stores.{stored}
 use Rattle.image.specs.Saves.{Made}
-use Rattle.volume.specs.Words.{nextAt, numberFreeAt, fillerAt, relativeAt}
+use Rattle.volume.specs.Words.{nextAt, numberFreeAt}
 use Rattle.volume.specs.Files.{Partition, partitionOf, candidate, len, ptrsFor, free, freeHead, chain, sound}
 use Rattle.volume.specs.Plans.{Plan, stores, nextBlock, freeTail, createPlan, describePlan}
 use Rattle.volume.specs.Calls.{Planned, refuse, finish, room, createIn, describeIn, Answered}
@@ -95,11 +95,11 @@ module _ {d : ℕ} {l : List ℕ} {s e : ℕ} (o : Opens d l s e) where
 
   pub block-second : (a q : ℕ) → a ≡ freeHead (partitionOf d s e) (view l) → q ≡ nextBlock (partitionOf d s e) (view l) a
       → 2 ≤ room (partitionOf d s e) (view l) → Block l q
-  block-second a q ha hq n = rw (hq, ha) (block-free _ (second-of (free-starts (partitionOf d s e) (view l) (o .sound) relativeAt n)))
+  block-second a q ha hq n = rw (hq, ha) (block-free _ (second-of (free-starts (partitionOf d s e) (view l) (o .sound) 2 n)))
 
   pub block-third : (a q z : ℕ) → a ≡ freeHead (partitionOf d s e) (view l) → q ≡ nextBlock (partitionOf d s e) (view l) a → z ≡ nextBlock (partitionOf d s e) (view l) q
       → 3 ≤ room (partitionOf d s e) (view l) → Block l z
-  block-third a q z ha hq hz n = rw (hz, hq, ha) (block-free _ (third-of (free-starts (partitionOf d s e) (view l) (o .sound) fillerAt n)))
+  block-third a q z ha hq hz n = rw (hz, hq, ha) (block-free _ (third-of (free-starts (partitionOf d s e) (view l) (o .sound) 3 n)))
 
   -- the index of a file can be read
   pub file-opened : (f k p : ℕ) → candidate (partitionOf d s e) (view l) f ≡ true → k ≡ len (partitionOf d s e) (view l) f → p ≡ ptrsFor k

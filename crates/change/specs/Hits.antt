@@ -12,7 +12,6 @@ use borrow.Author.Tests.{eqb-true, ne-eqb}
 use Rattle.base.specs.Tests.{pick, occ}
 use Rattle.base.specs.Laws.{both-of}
 use Rattle.image.specs.View.{View, Store, places}
-use Rattle.volume.specs.Words.{fillerAt, relativeAt}
 use Rattle.volume.specs.Files.{Partition, inside, candidate, isFile, len, ptrs, nth, size, owned, sound, free, freeHead}
 use Rattle.volume.specs.Owned.{nth-fib, fib-in, size-pos, size-last, owned-in}
 use Rattle.volume.specs.Meaning.{Names, named-owned, one-place}
@@ -131,7 +130,7 @@ module _ (π : Partition) (v : View) (ok : sound π v ≡ true) (b : ℕ) where
   -- the first free blocks, and the last
   pub free-two : 2 ≤ room π v → hit b (freeHead π v) + hit b (nextBlock π v (freeHead π v)) ≤ occ b (free π v)
   free-two n =
-      let r = free-starts π v ok relativeAt n in
+      let r = free-starts π v ok 2 n in
       omega (arith, ap (occ b) (r .is), occ-two (freeHead π v) (nextBlock π v (freeHead π v)) (r .rest))
 
   pub occ-three : (x y z : ℕ) (l : List ℕ) → occ b (x ∷ y ∷ z ∷ l) ≡ hit b x + (hit b y + (hit b z + occ b l))
@@ -141,7 +140,7 @@ module _ (π : Partition) (v : View) (ok : sound π v ≡ true) (b : ℕ) where
   pub free-three : 3 ≤ room π v
       → hit b (freeHead π v) + (hit b (nextBlock π v (freeHead π v)) + hit b (nextBlock π v (nextBlock π v (freeHead π v)))) ≤ occ b (free π v)
   free-three n =
-      let r = free-starts π v ok fillerAt n in
+      let r = free-starts π v ok 3 n in
       omega (arith, ap (occ b) (r .is), occ-three (freeHead π v) (nextBlock π v (freeHead π v)) (nextBlock π v (nextBlock π v (freeHead π v))) (r .rest))
 
   pub free-last : hit b (freeTail π v) ≤ occ b (free π v)

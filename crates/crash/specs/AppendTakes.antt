@@ -14,7 +14,7 @@ use Rattle.base.specs.Laws.{both-of}
 use Rattle.drive.specs.Address.{pda, lda}
 use Rattle.image.specs.View.{upd-same, upd-other, View, Rec, Store, after, upd, put, put2}
 use Rattle.image.specs.Saves.{withData}
-use Rattle.volume.specs.Words.{fillerAt, nextAt, previousAt}
+use Rattle.volume.specs.Words.{nextAt, previousAt}
 use Rattle.volume.specs.Files.{Partition, ptrIndex, ptrSlot, inside, candidate, len, ptrsFor, ptrs, ptr, nth, size, wellFormed, owned, free, freeHead, sound}
 use Rattle.volume.specs.Frame.{Shape}
 use Rattle.volume.specs.Owned.{nth-ptr, size-pos, size-last}
@@ -122,7 +122,7 @@ module _ {π : Partition} {v : View} {f : ℕ} {dat : Rec} (G : Growing π v f d
   a≢q = first≢second π v (G .ok) two
 
   pub st₃ : grows π v f ≡ true → Starts (freeHead π v ∷ after₁ π v (freeHead π v) ∷ after₁ π v (after₁ π v (freeHead π v)) ∷ []) (free π v)
-  st₃ h = free-starts π v (G .ok) fillerAt (subst (λ (t : Bool). asks t ≤ length (free π v)) h (G .enough))
+  st₃ h = free-starts π v (G .ok) 3 (subst (λ (t : Bool). asks t ≤ length (free π v)) h (G .enough))
 
   pub a-in : inside π (freeHead π v) ≡ true
   a-in = free-in π v (G .ok) a a-occ

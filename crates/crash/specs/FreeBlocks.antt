@@ -48,7 +48,7 @@ module _ (π : Partition) (v : View) (ok : sound π v ≡ true) where
     g = after₁ π v a
 
     pub starts-two : Starts (freeHead π v ∷ after₁ π v (freeHead π v) ∷ []) (free π v)
-    starts-two = free-starts π v ok relativeAt two
+    starts-two = free-starts π v ok 2 two
 
     pub second-occ : 0 < occ (after₁ π v (freeHead π v)) (free π v)
     second-occ = omega (arith, ap (occ g) (starts-two .is), occ-more g a (g ∷ starts-two .rest), occ-here g (starts-two .rest))

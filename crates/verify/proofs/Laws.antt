@@ -9,7 +9,7 @@ use Rattle.base.specs.Tests.{all, count, occ}
 use Rattle.base.specs.Laws.{both-right, every-at}
 use Rattle.drive.specs.Address.{pdaBlock}
 use Rattle.image.specs.View.{View, pair}
-use Rattle.volume.specs.Words.{nextAt, numberFreeAt, relativeAt}
+use Rattle.volume.specs.Words.{nextAt, numberFreeAt}
 use Rattle.volume.specs.Files.{Partition, blockAt, owned, free, freeHead, onceTest, freeSound, sound}
 use Rattle.volume.specs.Reads.{inside-of}
 use Rattle.frame.specs.Sound.{occ-here, occ-more, after₁, free-in, free-starts, head-free, sound-number, sound-some, sound-within}
@@ -39,7 +39,7 @@ module _ (π : Partition) (v : View) where
 
     second-free : 2 ≤ length (free π v) → 0 < occ (after₁ π v (freeHead π v)) (free π v)
     second-free h =
-        let r = free-starts π v ok relativeAt h in
+        let r = free-starts π v ok 2 h in
         let x : ℕ = after₁ π v (freeHead π v) in
         omega (arith, ap (occ x) (r .is), occ-here x (r .rest), occ-more x (freeHead π v) (x ∷ r .rest))
 

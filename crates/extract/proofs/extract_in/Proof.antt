@@ -1,8 +1,10 @@
-use mathlib.Core.Path.{sym, _∙_}
+use mathlib.Core.Path.{sym, ap, _∙_}
+use Prim.Native.Nat.{ℕ}
 use native.Mathlib.Omega.{arith}
 use borrow.Author.Tests.{eq-eqb, ne-eqb, not-true, not-false}
 use Rattle.volume.specs.Answers.{extractIn}
 use Rattle.volume.specs.Reads.{candidate-in}
+use Rattle.volume.specs.declared.Outcome.the-variants.{Done}
 use Rattle.inspect.proofs.Laws.{wf-opened}
 use borrow.Author.Needs.{needs}
 use Rattle.extract.proofs.extract_in.Statement.{statement}
@@ -31,7 +33,7 @@ copy-blocks-requires c κs = (wf-opened _ _ _ (c .before .before .before .before
 
 returns-4 : tie.Need-returns-4
 unfolding extractIn
-returns-4 c = let q = sym (c .before .before .before .before .before .before .before .before .before .before .candidate .ensures) ∙ not-false _ (c .before .before .before .before .before .before .before .before .before .if1 .left) in let w = sym (c .before .before .before .before .before .before .before .before .well-formed .ensures) ∙ not-false _ (c .before .before .before .before .before .before .before .if2 .left) in let n = eq-eqb _ _ (rw (c .before .before .before .before .before .before .len .ensures .0) at (c .before .before .before .before .before .if3 .left)) in (rw (extractIn, q, w, n, c .before .before .before .before .before .before .len .ensures .0), rw (extractIn, q, w, n) (rw (c .before .before .before .before .before .before .len .ensures .0) at (c .before .before .copy-blocks .ensures)))
+returns-4 c = let q = sym (c .before .before .before .before .before .before .before .before .before .before .candidate .ensures) ∙ not-false _ (c .before .before .before .before .before .before .before .before .before .if1 .left) in let w = sym (c .before .before .before .before .before .before .before .before .well-formed .ensures) ∙ not-false _ (c .before .before .before .before .before .before .before .if2 .left) in let n = eq-eqb _ _ (rw (c .before .before .before .before .before .before .len .ensures .0) at (c .before .before .before .before .before .if3 .left)) in (rw (extractIn, q, w, n) (ap (λ (x : ℕ). Done x 0 0) (c .before .before .before .before .before .before .len .ensures .0)), rw (extractIn, q, w, n) (rw (c .before .before .before .before .before .before .len .ensures .0) at (c .before .before .copy-blocks .ensures)))
 
 pub extract-in-spec : {M : Type 1} → statement M
 extract-in-spec =

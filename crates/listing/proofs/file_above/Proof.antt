@@ -1,5 +1,8 @@
+use mathlib.Core.Path.{_≡_}
 use Prim.Native.Nat.{_+_, _-_}
 use native.Mathlib.Omega.{arith}
+use lib.Dec.{ltb}
+use Rattle.base.specs.Tests.{pick}
 use Rattle.image.specs.Image.{view}
 use Rattle.volume.specs.Files.{partitionOf, isFile}
 use Rattle.volume.specs.Answers.{fileAbove}
@@ -15,11 +18,11 @@ abbrev μ-loop : tie.MeasureT-loop
 
 returns : tie.Need-returns Inv-loop μ-loop
 unfolding fileAbove
-returns c = rw (← c .before .most .ensures) (lowest-nothing _ _ _ (omega arith))
+returns c = let a = c .before .before .before .args in let q : c .before .most .result ≡ pick (ltb (a .b) (a .s)) (a .s) (a .b) = c .before .most .ensures in rw (← q) (lowest-nothing _ _ _ (omega arith))
 
 loop-holds : tie.Need-loop-holds Inv-loop μ-loop
 unfolding fileAbove
-loop-holds c = rw (← c .before .most .ensures) (search-starts-as _ _ _ _ (omega arith))
+loop-holds c = let a = c .before .before .before .args in let q : c .before .most .result ≡ pick (ltb (a .b) (a .s)) (a .s) (a .b) = c .before .most .ensures in rw (← q) (search-starts-as _ _ _ _ (omega arith))
 
 pub file-above-spec : {M : Type 1} → statement M
 file-above-spec =

@@ -1,6 +1,6 @@
-use mathlib.Core.Path.{subst, sym, _∙_}
-use native.Mathlib.Omega.{arith}
-use Rattle.drive.specs.Fits.{Fits, lbnToPda-fits, pdaToLbn-fits, lbnToLda-fits, ldaToLbn-fits, lbnToFileId-fits, fileIdToLbn-fits}
+use mathlib.Core.Path.{ap, _∙_}
+use Rattle.drive.specs.Fits.{lbnToPda-fits}
+use Rattle.perq.specs.Flat.{flatConverted}
 use borrow.Author.Needs.{needs}
 use Rattle.perq.proofs.perq_lbn_to_pda.Statement.{statement}
 use Rattle.perq.proofs.perq_lbn_to_pda.Tie as tie
@@ -9,7 +9,7 @@ converted-requires : tie.Need-converted-requires
 converted-requires c κs = rw (c .lbn-to-pda .ensures) (lbnToPda-fits _ _)
 
 returns : tie.Need-returns
-returns c = rw (← c .before .lbn-to-pda .ensures) (c .converted .ensures)
+returns c = c .converted .ensures ∙ ap flatConverted (c .before .lbn-to-pda .ensures)
 
 pub perq-lbn-to-pda-spec : {M : Type 1} → statement M
 perq-lbn-to-pda-spec = tie.close (tie.spec (λ c κs. search needs) converted-requires returns)

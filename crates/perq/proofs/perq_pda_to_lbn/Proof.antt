@@ -1,6 +1,6 @@
-use mathlib.Core.Path.{subst, sym, _∙_}
-use native.Mathlib.Omega.{arith}
-use Rattle.drive.specs.Fits.{Fits, lbnToPda-fits, pdaToLbn-fits, lbnToLda-fits, ldaToLbn-fits, lbnToFileId-fits, fileIdToLbn-fits}
+use mathlib.Core.Path.{ap, _∙_}
+use Rattle.drive.specs.Fits.{pdaToLbn-fits}
+use Rattle.perq.specs.Flat.{flatConverted}
 use borrow.Author.Needs.{needs}
 use Rattle.perq.proofs.perq_pda_to_lbn.Statement.{statement}
 use Rattle.perq.proofs.perq_pda_to_lbn.Tie as tie
@@ -9,7 +9,7 @@ converted-requires : tie.Need-converted-requires
 converted-requires c κs = rw (c .pda-to-lbn .ensures) (pdaToLbn-fits _ _)
 
 returns : tie.Need-returns
-returns c = rw (← c .before .pda-to-lbn .ensures) (c .converted .ensures)
+returns c = c .converted .ensures ∙ ap flatConverted (c .before .pda-to-lbn .ensures)
 
 pub perq-pda-to-lbn-spec : {M : Type 1} → statement M
 perq-pda-to-lbn-spec = tie.close (tie.spec (λ c κs. search needs) converted-requires returns)

@@ -8,25 +8,25 @@ use Rattle.reading.proofs.described_as.Tie as tie
 
 returns : tie.Need-returns
 unfolding describedAs
-returns c = rw (sym (c .before .before .before .before .partition .ensures) ∙ c .before .before .p .given .1, describedAs, ne-eqb _ _ (c .if1 .taken))
+returns c = rw (sym (c .before .before .before .before .partition .ensures) ∙ c .before .before .p .given .1, describedAs, ne-eqb _ 104 (c .if1 .taken))
 
 candidate-requires : tie.Need-candidate-requires
 candidate-requires c κs = lies _ _ _ _ (sym (c .before .before .before .before .partition .ensures) ∙ c .before .before .p .given .1)
 
 returns-2 : tie.Need-returns-2
 unfolding describedAs
-returns-2 c = rw (sym (c .before .before .before .before .before .before .partition .ensures) ∙ c .before .before .before .before .p .given .1, describedAs, eq-eqb _ _ (c .before .before .if1 .left), sym (c .before .candidate .ensures) ∙ not-true _ (c .if2 .taken))
+returns-2 c = rw (sym (c .before .before .before .before .before .before .partition .ensures) ∙ c .before .before .before .before .p .given .1, describedAs, eq-eqb _ 104 (c .before .before .if1 .left), sym (c .before .candidate .ensures) ∙ not-true _ (c .if2 .taken))
 
 well-formed-requires : tie.Need-well-formed-requires
 well-formed-requires c κs = (lies _ _ _ _ (sym (c .before .before .before .before .before .before .partition .ensures) ∙ c .before .before .before .before .p .given .1), candidate-in _ _ _ (sym (c .before .candidate .ensures) ∙ not-false _ (c .if2 .left)) .1)
 
 returns-3 : tie.Need-returns-3
 unfolding describedAs
-returns-3 c = rw (sym (c .before .before .before .before .before .before .before .before .partition .ensures) ∙ c .before .before .before .before .before .before .p .given .1, describedAs, eq-eqb _ _ (c .before .before .before .before .if1 .left), sym (c .before .before .before .candidate .ensures) ∙ not-false _ (c .before .before .if2 .left), sym (c .before .well-formed .ensures) ∙ c .if3 .taken)
+returns-3 c = rw (sym (c .before .before .before .before .before .before .before .before .partition .ensures) ∙ c .before .before .before .before .before .before .p .given .1, describedAs, eq-eqb _ 104 (c .before .before .before .before .if1 .left), sym (c .before .before .before .candidate .ensures) ∙ not-false _ (c .before .before .if2 .left), sym (c .before .well-formed .ensures) ∙ c .if3 .taken)
 
 returns-4 : tie.Need-returns-4
 unfolding describedAs
-returns-4 c = rw (sym (c .before .before .before .before .before .before .before .before .partition .ensures) ∙ c .before .before .before .before .before .before .p .given .1, describedAs, eq-eqb _ _ (c .before .before .before .before .if1 .left), sym (c .before .before .before .candidate .ensures) ∙ not-false _ (c .before .before .if2 .left), sym (c .before .well-formed .ensures) ∙ c .if3 .left)
+returns-4 c = rw (sym (c .before .before .before .before .before .before .before .before .partition .ensures) ∙ c .before .before .before .before .before .before .p .given .1, describedAs, eq-eqb _ 104 (c .before .before .before .before .if1 .left), sym (c .before .before .before .candidate .ensures) ∙ not-false _ (c .before .before .if2 .left), sym (c .before .well-formed .ensures) ∙ c .if3 .left)
 
 returns-5 : tie.Need-returns-5
 unfolding describedAs

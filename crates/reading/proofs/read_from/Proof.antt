@@ -11,11 +11,11 @@ show-in-requires c κs = lies _ _ _ _ (sym (c .before .before .before .before .p
 
 returns : tie.Need-returns
 unfolding readFrom
-returns c = rw (sym (c .before .before .before .before .before .partition .ensures) ∙ c .before .before .before .p .given .1, readFrom, eq-eqb _ _ (c .before .if1 .taken)) (c .show-in .ensures)
+returns c = rw (sym (c .before .before .before .before .before .partition .ensures) ∙ c .before .before .before .p .given .1, readFrom, eq-eqb _ 512 (c .before .if1 .taken)) (c .show-in .ensures)
 
 returns-2 : tie.Need-returns-2
 unfolding readFrom
-returns-2 c = rw (sym (c .before .before .before .before .partition .ensures) ∙ c .before .before .p .given .1, readFrom, ne-eqb _ _ (c .if1 .left))
+returns-2 c = rw (sym (c .before .before .before .before .partition .ensures) ∙ c .before .before .p .given .1, readFrom, ne-eqb _ 512 (c .if1 .left))
 
 returns-3 : tie.Need-returns-3
 unfolding readFrom

@@ -22,7 +22,7 @@ returns-2 c = rw (sym (c .before .before .before .candidate .ensures) ∙ not-fa
 
 returns-3 : tie.Need-returns-3
 unfolding showIn
-returns-3 c = rw (sym (c .before .before .before .before .candidate .ensures) ∙ not-false _ (c .before .before .before .if1 .left), sym (c .before .before .well-formed .ensures) ∙ not-false _ (c .before .if2 .left), le-ltb _ _ (c .if3 .taken), showIn)
+returns-3 c = rw (sym (c .before .before .before .before .candidate .ensures) ∙ not-false _ (c .before .before .before .if1 .left), sym (c .before .before .well-formed .ensures) ∙ not-false _ (c .before .if2 .left), le-ltb _ 4160 (c .if3 .taken), showIn)
 
 len-requires : tie.Need-len-requires
 len-requires c κs = let i = c .before .before .before .before .before .before .pre in omega (arith, i .within, candidate-in _ _ _ (sym (c .before .before .before .before .candidate .ensures) ∙ not-false _ (c .before .before .before .if1 .left)) .1)
@@ -32,11 +32,11 @@ name-requires c κs = (wf-opened _ _ _ (c .before .before .before .before .befor
 
 returns-4 : tie.Need-returns-4
 unfolding showIn
-returns-4 c = rw (sym (c .before .before .before .before .before .before .before .before .candidate .ensures) ∙ not-false _ (c .before .before .before .before .before .before .before .if1 .left), sym (c .before .before .before .before .before .before .well-formed .ensures) ∙ not-false _ (c .before .before .before .before .before .if2 .left), lt-ltb _ _ (c .before .before .before .before .if3 .left), lt-ltb _ _ (rw (c .before .before .before .len .ensures .0) at (c .before .before .if4 .taken)), showIn, c .name .ensures .0)
+returns-4 c = rw (sym (c .before .before .before .before .before .before .before .before .candidate .ensures) ∙ not-false _ (c .before .before .before .before .before .before .before .if1 .left), sym (c .before .before .before .before .before .before .well-formed .ensures) ∙ not-false _ (c .before .before .before .before .before .if2 .left), lt-ltb _ 4160 (c .before .before .before .before .if3 .left), lt-ltb _ _ (rw (c .before .before .before .len .ensures .0) at (c .before .before .if4 .taken)), showIn, c .name .ensures .0)
 
 returns-5 : tie.Need-returns-5
 unfolding showIn
-returns-5 c = rw (sym (c .before .before .before .before .before .before .candidate .ensures) ∙ not-false _ (c .before .before .before .before .before .if1 .left), sym (c .before .before .before .before .well-formed .ensures) ∙ not-false _ (c .before .before .before .if2 .left), lt-ltb _ _ (c .before .before .if3 .left), le-ltb _ _ (rw (c .before .len .ensures .0) at (c .if4 .left)), showIn)
+returns-5 c = rw (sym (c .before .before .before .before .before .before .candidate .ensures) ∙ not-false _ (c .before .before .before .before .before .if1 .left), sym (c .before .before .before .before .well-formed .ensures) ∙ not-false _ (c .before .before .before .if2 .left), lt-ltb _ 4160 (c .before .before .if3 .left), le-ltb _ _ (rw (c .before .len .ensures .0) at (c .if4 .left)), showIn)
 
 pub show-in-spec : {M : Type 1} → statement M
 show-in-spec =
