@@ -6,3 +6,4 @@ pub mod Repair
 pub mod Restart
 pub mod Mended
 pub mod Fitting
+pub mod Clean

@@ -25,7 +25,7 @@ use Rattle.volume.specs.declared.Found.the-variants.{At, Nothing}
 use Rattle.volume.specs.declared.Part.the-variants as part
 use Rattle.volume.specs.declared.Outcome.the-variants.{Done, Refused}
 use Rattle.frame.specs.Chain.{head-zero}
-use Rattle.repair.specs.Standing.{head-under}
+use Rattle.blocks.specs.Standing.{head-under}
 use Rattle.repair.specs.Mending.{isFree}
 
 -- ---- the first unowned block

@@ -19,25 +19,20 @@ use Rattle.image.proofs.Laws.{then}
 use Rattle.volume.specs.Words.{freeHeadAt, freeTailAt, numberFreeAt}
 use Rattle.volume.specs.Files.{Partition, owned, unowned}
 use Rattle.volume.specs.Answers.{Unmarred}
-use Rattle.volume.specs.Reads.{Lies}
 use Rattle.volume.specs.Agree.{Clean, Alike, alike, agree-clean, agree-owned, agree-unowned}
 use Rattle.volume.specs.Plans.{st, stores, repaired, repairedPib, repairPlan, repairStores}
+use Rattle.frame.specs.Clean.{of-clean}
 use Rattle.frame.specs.Repair.{mid-agree}
 use Rattle.frame.specs.Restart.{Part, start, hits, hits-tab-in, repaired-same, target-same, target-pib}
 use Rattle.repair.specs.declared.Progress.{Progress}
 use Rattle.links.proofs.Laws.{formed}
-use Rattle.repair.specs.Clean.{of-clean}
-use Rattle.repair.specs.Standing.{Standing, stand-starts, stand-last, stand-many}
-use Rattle.repair.specs.Fits.{fits-of}
+use Rattle.blocks.specs.Ready.{Ready}
+use Rattle.blocks.specs.Standing.{Standing, stand-starts, stand-last, stand-many}
+use Rattle.blocks.specs.Fits.{fits-of}
 
 -- block b is unowned
 abbrev pub isFree : Partition → View → ℕ → Bool
 isFree π v b = not (owned π v b)
-
--- a partition of the image with no malformed candidate
-pub record Ready (π : Partition) (l : List ℕ) : Type 0 where
-  pub lies : Lies (π .drive) l (π .s) (π .e)
-  pub none : Unmarred π (view l)
 
 -- repair is at block b of the image l, and `first` is the first unowned block
 pub record Turn (π : Partition) (l : List ℕ) (first b : ℕ) (t : Progress) : Type 0 where

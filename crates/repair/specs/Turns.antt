@@ -15,8 +15,8 @@ use Rattle.volume.specs.Files.{Partition, owned, unowned}
 use Rattle.volume.specs.Plans.{st, asFiller, relinked, freed, repaired}
 use Rattle.frame.specs.Repair.{repaired-mine, repaired-free}
 use Rattle.repair.specs.declared.Progress.{Progress}
-use Rattle.repair.specs.Standing.{head-under, stand-hit, stand-miss, stand-below, stand-above, stand-on, stand-past, last-few, many-few}
-use Rattle.repair.specs.Records.{linkTo}
+use Rattle.blocks.specs.Standing.{head-under, stand-hit, stand-miss, stand-below, stand-above, stand-on, stand-past, last-few, many-few}
+use Rattle.blocks.specs.Records.{linkTo}
 use Rattle.repair.specs.Mending.{isFree, Turn, Turned}
 
 module _ {π : Partition} {l : List ℕ} {first b : ℕ} {t : Progress} (g : Turn π l first b t) where

@@ -7,14 +7,13 @@ ghost use Rattle.image.specs.Image.{view};
 ghost use Rattle.volume.specs.Files.{partitionOf, unowned};
 ghost use Rattle.volume.specs.Calls.{repairIn, planned, Call, Answered};
 ghost use Rattle.volume.specs.declared.Outcome.the-variants.{Refused};
-ghost use Rattle.repair.specs.Mending.{isFree, Ready, Turn, Turned, Mending};
+ghost use Rattle.blocks.specs.Ready.{Ready};
+ghost use Rattle.repair.specs.Mending.{isFree, Turn, Turned, Mending};
 use base::Refusal;
 use volume::Answer;
 use volume::Found;
 use volume::Outcome;
 use volume::Part;
-
-mod blocks; // blocks.rt: the record of each block
 
 // How far repair has come: the stores that the limit leaves, the last unowned block passed and the first one ahead, each 0 if there is
 // none, and how many unowned blocks were passed.

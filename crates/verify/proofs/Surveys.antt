@@ -1,16 +1,19 @@
 -- One pass over the blocks: what a block's standing says, the pass so far, and what its end gives. Assumes nothing.
 use mathlib.Core.Path.{_≡_, refl, sym, ap, _∙_}
-use mathlib.Core.Bool.{Bool, true, false, not, true≢false, false≢true}
-use Prim.Native.Nat.{ℕ, zero, suc, _+_, _-_, _*_, _≤_, _<_}
+use mathlib.Core.Bool.{Bool, true, false, not, true≢false, false≢true, _||_}
+use Prim.Native.Nat.{ℕ, suc, _+_, _-_, _*_, _≤_, _<_}
 use native.Mathlib.Omega.{arith}
 use native.Mathlib.Numerals.{add-one}
 use Rattle.base.specs.Tests.{pick, both, all, count}
 use Rattle.base.specs.Laws.{both-left, both-right, both-of, all-at}
 use Rattle.base.specs.Sums.{sum}
 use Rattle.image.specs.View.{View}
-use Rattle.volume.specs.Files.{Partition, blockAt, candidate, wellFormed, linked, isFile, isMalformed, size, fileTest, owned, freeSound, sound}
-use Rattle.volume.specs.Answers.{lowest, lowestMalformed, Unmarred, checkIn, tallied}
+use Rattle.volume.specs.Files.{Partition, blockAt, candidate, wellFormed, linked, isFile, size, fileTest, owned, freeSound, sound}
+use Rattle.volume.specs.Answers.{lowestMalformed, Unmarred, checkIn, tallied}
 use Rattle.volume.specs.Owned.{wf-of, few-ptrs}
+use Rattle.volume.specs.Agree.{Clean}
+use Rattle.volume.specs.Reads.{candidate-in}
+use Rattle.frame.specs.Clean.{of-clean}
 use Rattle.volume.specs.Steps.{both-no}
 use Rattle.volume.specs.declared.Found.{Found}
 use Rattle.volume.specs.declared.Found.the-variants.{At, Nothing}
@@ -43,12 +46,6 @@ told-file : (c w : Bool) (n k : ℕ) → told c w n ≡ stands.File k → (c ≡
 told-file true true n k q = let z : n ≡ k = cc in (refl, refl, sym z)
 told-file true false n k q = let z : _≡_ {A = ℕ} 0 1 = cc in absurd (omega arith)
 told-file false w n k q = let z : _≡_ {A = ℕ} 0 1 = cc in absurd (omega arith)
-
--- a malformed candidate is the lowest of some
-lowest-of : (P : ℕ → Bool) (n a : ℕ) → ((x : ℕ) → a ≤ x → x < a + n → P x ≡ false) → lowest P a n ≡ Nothing
-unfolding lowest
-lowest-of P zero a h = refl
-lowest-of P (suc n) a h = rw (h a (omega arith) (omega arith), lowest) (lowest-of P n (a + 1) (λ x l m. h x (omega arith) (omega arith)))
 
 module _ (π : Partition) (v : View) where
   module _ (f : ℕ) where
@@ -168,19 +165,21 @@ module _ (π : Partition) (v : View) where
 
   -- no candidate is malformed where each is a linked file
   pub good-unmarred : all (π.e - π.s) (fileTest π v) ≡ true → Unmarred π v
-  unfolding lowestMalformed isMalformed both
-  good-unmarred h = lowest-of (isMalformed π v) (π.e - π.s) (π.s + 1) none
+  good-unmarred h = of-clean π v clean
     where
-      at : (i : ℕ) → (c : Bool) → candidate π v (blockAt π i) ≡ c → (w : Bool) → wellFormed π v (blockAt π i) ≡ w → fileTest π v i ≡ true → both c (not w) ≡ false
-      at i false q w r t = refl
-      at i true q true r t = refl
-      at i true q false r t = absurd (false≢true (sym (rw (q, r)) ∙ t))
+      at : (c w : Bool) (l : Bool) → c ≡ true → (not c || both w l) ≡ true → w ≡ true
+      at true w l q t = both-left _ _ t
+      at false w l q t = absurd (false≢true q)
 
-      none : (x : ℕ) → π.s + 1 ≤ x → x < π.s + 1 + (π.e - π.s) → isMalformed π v x ≡ false
-      none x l m =
-          let i : ℕ = x - suc π.s in
-          let z : blockAt π i ≡ x = omega arith in
-          ap (isMalformed π v) (sym z) ∙ at i _ refl _ refl (all-at (π.e - π.s) (fileTest π v) h i (omega arith))
+      clean : Clean π v
+      clean f c =
+          let b = candidate-in π v f c in
+          let lo : π.s < f = b .0 in
+          let hi : f ≤ π.e = b .1 in
+          let i : ℕ = f - suc π.s in
+          let z : blockAt π i ≡ f = omega arith in
+          let t = all-at (π.e - π.s) (fileTest π v) h i (omega arith) in
+          ap (wellFormed π v) (sym z) ∙ at (candidate π v (blockAt π i)) _ _ (ap (candidate π v) z ∙ c) t
 
   pub sound-unmarred : sound π v ≡ true → Unmarred π v
   unfolding sound

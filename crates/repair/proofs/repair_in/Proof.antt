@@ -1,7 +1,7 @@
 use mathlib.Core.Path.{_∙_}
 use native.Mathlib.Omega.{arith}
 use borrow.Author.Needs.{needs}
-use Rattle.repair.specs.Standing.{last-end, many-end}
+use Rattle.blocks.specs.Standing.{last-end, many-end}
 use Rattle.repair.specs.Mending.{mend-pib, mend-end}
 use Rattle.repair.specs.Answer.{from-start, first-few, none-free, some-free, answered-not, answered-done}
 use Rattle.repair.proofs.repair_in.Statement.{statement}

@@ -6,7 +6,7 @@ use borrow.Author.Needs.{needs}
 use Rattle.image.specs.Image.{view}
 use Rattle.volume.specs.Files.{owned, partitionOf}
 use Rattle.base.specs.Tests.{those, headOf}
-use Rattle.repair.specs.Standing.{Seeking, seek-starts, seek-hit, seek-next, seek-end}
+use Rattle.blocks.specs.Standing.{Seeking, seek-starts, seek-hit, seek-next, seek-end}
 use Rattle.repair.specs.Mending.{isFree}
 use Rattle.repair.proofs.unowned_from.Statement.{statement}
 use Rattle.repair.proofs.unowned_from.Tie as tie

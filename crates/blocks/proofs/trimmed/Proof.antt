@@ -2,9 +2,9 @@ use mathlib.Core.Path.{sym, _∙_}
 use native.Mathlib.Omega.{arith}
 use borrow.Author.Needs.{needs}
 use Rattle.volume.specs.Files.{ptrsFor}
-use Rattle.repair.specs.Records.{cleared, trimmed-is}
-use Rattle.repair.proofs.blocks.trimmed.Statement.{statement}
-use Rattle.repair.proofs.blocks.trimmed.Tie as tie
+use Rattle.blocks.specs.Records.{cleared, trimmed-is}
+use Rattle.blocks.proofs.trimmed.Statement.{statement}
+use Rattle.blocks.proofs.trimmed.Tie as tie
 
 mul-used : tie.Need-mul-used
 unfolding ptrsFor

@@ -1,9 +1,9 @@
 use mathlib.Core.Path.{ap, _∙_}
 use borrow.Author.Needs.{needs}
 use Rattle.volume.specs.Plans.{trimmed}
-use Rattle.repair.specs.Records.{content-top, content-later, content-direct}
-use Rattle.repair.proofs.blocks.content.Statement.{statement}
-use Rattle.repair.proofs.blocks.content.Tie as tie
+use Rattle.blocks.specs.Records.{content-top, content-later, content-direct}
+use Rattle.blocks.proofs.content.Statement.{statement}
+use Rattle.blocks.proofs.content.Tie as tie
 
 returns : tie.Need-returns
 returns c = c .before .«record» .ensures ∙ content-later _ _ _ _ (c .if1 .taken)

@@ -16,9 +16,9 @@ use Rattle.volume.specs.Plans.{content, relinked}
 use Rattle.inspect.specs.Parts.{Opened}
 use Rattle.inspect.proofs.Laws.{opened-few}
 use Rattle.links.proofs.Laws.{formed, opened}
-use Rattle.repair.specs.Fits.{next-small, prev-small}
-use Rattle.repair.specs.Records.{contentOf}
-use Rattle.repair.specs.Mending.{Ready}
+use Rattle.blocks.specs.Fits.{next-small, prev-small}
+use Rattle.blocks.specs.Records.{contentOf}
+use Rattle.blocks.specs.Ready.{Ready}
 
 -- block b is place i of file f, which has p pointer blocks and k blocks: the file can be read, the links are pairs of words, and the
 -- record that they make is the definition's

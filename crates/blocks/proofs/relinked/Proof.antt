@@ -1,10 +1,10 @@
 use native.Mathlib.Omega.{arith}
 use denote.Ref.{now}
 use borrow.Author.Needs.{needs}
-use Rattle.repair.specs.Relink.{Filed, filed, file-in, ptrs-few}
+use Rattle.blocks.specs.Relink.{Filed, filed, file-in, ptrs-few}
 use Rattle.volume.specs.Files.{partitionOf}
-use Rattle.repair.proofs.blocks.relinked.Statement.{statement}
-use Rattle.repair.proofs.blocks.relinked.Tie as tie
+use Rattle.blocks.proofs.relinked.Statement.{statement}
+use Rattle.blocks.proofs.relinked.Tie as tie
 
 -- what the code has read of the block and its file
 read : (c : tie.After-place-in) → (let a = c .before .before .before .before .before .before .args in Filed (partitionOf (a .drive) (a .s) (a .e)) (now (a .img)) (a .b) (c .before .before .before .pda-block .result) (c .before .ptrs-for .result) (c .before .before .len .result) (c .place-in .result))

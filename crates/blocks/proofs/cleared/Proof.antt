@@ -2,9 +2,9 @@ use mathlib.Core.Path.{refl}
 use Prim.Native.Nat.{_-_, _*_, _≤_}
 use native.Mathlib.Omega.{arith}
 use borrow.Author.Needs.{needs}
-use Rattle.repair.specs.Records.{Clearing, clear-starts, clear-next, clear-end}
-use Rattle.repair.proofs.blocks.cleared.Statement.{statement}
-use Rattle.repair.proofs.blocks.cleared.Tie as tie
+use Rattle.blocks.specs.Records.{Clearing, clear-starts, clear-next, clear-end}
+use Rattle.blocks.proofs.cleared.Statement.{statement}
+use Rattle.blocks.proofs.cleared.Tie as tie
 
 abbrev Inv-loop : tie.InvT-loop
 Inv-loop w x₀ i₀ x i = (2 * w ≤ i) × Clearing x₀ x (2 * w) i

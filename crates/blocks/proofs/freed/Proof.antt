@@ -1,6 +1,6 @@
 use borrow.Author.Needs.{needs}
-use Rattle.repair.proofs.blocks.freed.Statement.{statement}
-use Rattle.repair.proofs.blocks.freed.Tie as tie
+use Rattle.blocks.proofs.freed.Statement.{statement}
+use Rattle.blocks.proofs.freed.Tie as tie
 
 returns : tie.Need-returns
 returns c = rw (c .with-pair3 .ensures, c .before .with-word .ensures, c .before .before .with-pair2 .ensures, c .before .before .before .link-to2 .ensures .0, c .before .before .before .before .with-pair .ensures, c .before .before .before .before .before .link-to .ensures .0, c .before .before .before .before .before .before .«record» .ensures)

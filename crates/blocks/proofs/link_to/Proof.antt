@@ -3,8 +3,8 @@ use native.Mathlib.Omega.{arith}
 use borrow.Author.Needs.{needs}
 use borrow.Author.Tests.{eq-eqb, ne-eqb}
 use Rattle.drive.specs.Fits.{pda-small}
-use Rattle.repair.proofs.blocks.link_to.Statement.{statement}
-use Rattle.repair.proofs.blocks.link_to.Tie as tie
+use Rattle.blocks.proofs.link_to.Statement.{statement}
+use Rattle.blocks.proofs.link_to.Tie as tie
 
 returns : tie.Need-returns
 returns c = (sym (rw (eq-eqb _ 0 (c .if1 .taken))), omega arith)

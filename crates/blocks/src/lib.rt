@@ -9,8 +9,8 @@ ghost use Rattle.image.specs.Image.{view, recOf};
 ghost use Rattle.volume.specs.Words.{serialAt, fillerAt, nextAt, previousAt, freeHeadAt, freeTailAt, numberFreeAt};
 ghost use Rattle.volume.specs.Files.{partitionOf, ptrsFor, owned};
 ghost use Rattle.volume.specs.Plans.{asFiller, trimmed, relinked};
-ghost use Rattle.repair.specs.Records.{linkTo, cleared, contentOf};
-ghost use Rattle.repair.specs.Mending.{Ready};
+ghost use Rattle.blocks.specs.Records.{linkTo, cleared, contentOf};
+ghost use Rattle.blocks.specs.Ready.{Ready};
 
 // Words of a header, of a pointer block and of a PIB.
 const SERIAL: usize = 0;

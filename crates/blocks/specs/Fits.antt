@@ -21,7 +21,7 @@ use Rattle.volume.specs.Plans.{trimmed, content, relinked, freed, repaired}
 use Rattle.frame.specs.Chain.{above-those, below-those}
 use Rattle.frame.specs.Fitting.{put-fits, put2-fits, trimmed-fits, view-fits}
 use Rattle.frame.specs.Repair.{repaired-mine, repaired-free}
-use Rattle.repair.specs.Standing.{last-under, head-under}
+use Rattle.blocks.specs.Standing.{last-under, head-under}
 
 -- an address or nil
 pick-small : (t : Bool) (x y n : ℕ) → x < n → y < n → pick t x y < n

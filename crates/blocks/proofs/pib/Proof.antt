@@ -1,8 +1,8 @@
 use native.Mathlib.Omega.{arith}
 use borrow.Author.Needs.{needs}
 use Rattle.drive.specs.Fits.{lda-small}
-use Rattle.repair.proofs.blocks.pib.Statement.{statement}
-use Rattle.repair.proofs.blocks.pib.Tie as tie
+use Rattle.blocks.proofs.pib.Statement.{statement}
+use Rattle.blocks.proofs.pib.Tie as tie
 
 with-pair-requires-2 : tie.Need-with-pair-requires-2
 with-pair-requires-2 c κs = (omega arith, rw (c .lda .ensures) (lda-small _ _ (omega arith)))

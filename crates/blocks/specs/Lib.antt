@@ -1,0 +1,5 @@
+pub mod Ready
+pub mod Standing
+pub mod Fits
+pub mod Records
+pub mod Relink
