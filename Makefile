@@ -37,12 +37,14 @@ build/libperq.a: crates.txt $(shell find crates 2>/dev/null)
 tool: library
 	@cd host && cargo build --offline --quiet --release -p tapermoss --no-default-features --features "$(FEATURES)"
 
-# The worked examples as a table, and the walk-through, which needs all calls.
+# The worked examples as a table, the walk-through, which needs all calls, and the same jobs on images that the reference made.
 run: tool
 	@build/host/release/tapermoss tour
 ifneq ($(findstring changing,$(FEATURES)),)
 	@echo
 	@tools/walk build/host/release/tapermoss build/walk
+	@cd host && cargo build --offline --quiet --release -p trials --bin batch_data --no-default-features --features "$(FEATURES)"
+	@tools/reference build/host/release/tapermoss build/host/release/batch_data build/reference
 endif
 
 # The shared object that host/python/tapermoss.py loads.
