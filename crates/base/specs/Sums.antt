@@ -1,7 +1,7 @@
 -- Sums over the numbers below k, the pigeonhole, and counting by a key.
 use mathlib.Core.Path.{_≡_, refl, sym, ap, ap₂, _∙_}
 use mathlib.Core.Logic.{⊎-elim}
-use mathlib.Core.Bool.{Bool, true, false}
+use mathlib.Core.Bool.{Bool, true, false, not}
 use Prim.Native.Nat.{ℕ, zero, suc, _+_, _≤_, _<_}
 use native.Mathlib.Omega.{arith}
 use native.Mathlib.Nat.{eq-or-lt-of-le}
@@ -79,6 +79,16 @@ count-only s k x P l h q = count-sum k P ∙ sum-same k _ _ (λ i m. ap (λ (t :
 
 pub count-nil : (k : ℕ) (P : ℕ → Bool) → ((i : ℕ) → i < k → P i ≡ false) → count k P ≡ 0
 count-nil k P q = count-sum k P ∙ sum-same k _ _ (λ i m. ap (λ (t : Bool). pick t 1 0) (q i m)) ∙ sum-nil k
+
+-- each passes or does not
+pub count-both : (k : ℕ) (P : ℕ → Bool) → count k P + count k (λ i. not (P i)) ≡ k
+unfolding count
+count-both zero P = refl
+count-both (suc k) P = go (P k) (count-both k P)
+  where
+    go : (t : Bool) → count k P + count k (λ i. not (P i)) ≡ k → (pick t 1 0 + count k P) + (pick (not t) 1 0 + count k (λ i. not (P i))) ≡ suc k
+    go true q = omega arith
+    go false q = omega arith
 
 -- what passes, counted key by key, where the key of each is one of s+1..s+n
 pub count-by : (s n m : ℕ) (P : ℕ → Bool) (K : ℕ → ℕ) → ((i : ℕ) → i < m → P i ≡ true → (s < K i) × (K i ≤ s + n))

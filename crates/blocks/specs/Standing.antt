@@ -1,7 +1,7 @@
 -- Where repair stands among the unowned blocks as it goes from s+1 up to e: P holds of the unowned ones.
 use mathlib.Core.Path.{_≡_, refl, sym, ap, ap₂, _∙_}
 use mathlib.Core.Logic.{_⊎_, inl, inr}
-use mathlib.Core.List.{List, [], _∷_, _++_}
+use mathlib.Core.List.{List, [], _∷_, _++_, append-nil}
 use mathlib.Core.Bool.{Bool, true, false}
 use Prim.Native.Nat.{ℕ, zero, suc, _+_, _-_, _≤_, _<_}
 use native.Mathlib.Omega.{arith}
@@ -74,10 +74,6 @@ length-snoc : (y : ℕ) (xs : List ℕ) → length (xs ++ (y ∷ [])) ≡ length
 length-snoc y [] = refl
 length-snoc y (x ∷ xs) = omega (arith, length-snoc y xs)
 
-nil-end : (xs : List ℕ) → xs ++ [] ≡ xs
-nil-end [] = refl
-nil-end (x ∷ xs) = ap (λ (ys : List ℕ). x ∷ ys) (nil-end xs)
-
 pub stand-starts : (P : ℕ → Bool) (s e first : ℕ) → s < e → first ≡ headOf 0 (those (suc s) (e - s) P) → Standing P s e (suc s) 0 first 0
 unfolding those lastOf
 stand-starts P s e first h q =
@@ -146,7 +142,7 @@ module _ {P : ℕ → Bool} {s e b last next count : ℕ} (g : Standing P s e b 
   pub stand-past : P b ≡ false → Standing P s e (b + 1) last next count
   stand-past q =
       let l : those (suc s) (b + 1 - suc s) P ≡ below-b =
-      ap (λ (n : ℕ). those (suc s) n P) step ∙ those-snoc P (suc s) (b - suc s) ∙ ap (λ (n : ℕ). below-b ++ pick (P n) (n ∷ []) []) here ∙ ap (λ (t : Bool). below-b ++ pick t (b ∷ []) []) q ∙ nil-end below-b in
+      ap (λ (n : ℕ). those (suc s) n P) step ∙ those-snoc P (suc s) (b - suc s) ∙ ap (λ (n : ℕ). below-b ++ pick (P n) (n ∷ []) []) here ∙ ap (λ (t : Bool). below-b ++ pick t (b ∷ []) []) q ∙ append-nil below-b in
       record {
         behind = g .behind ∙ ap (lastOf 0) (sym l);
         ahead =

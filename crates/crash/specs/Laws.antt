@@ -42,7 +42,8 @@ use Rattle.crash.specs.Settled.{Settled, refused, done}
 use Rattle.crash.specs.Held.{Held, placed, end-is}
 use Rattle.crash.specs.Accepting.{Sound, clean-unmarred, sound-accepted, accepted-sound, settled, block}
 use Rattle.crash.specs.Effect.{Effect}
-use Rattle.crash.specs.Needed.{needed, owned-needed, free-unowned}
+use Rattle.frame.specs.Needed.{needed, owned-needed}
+use Rattle.crash.specs.Needed.{free-unowned}
 use Rattle.crash.specs.Needed as counts
 use Rattle.crash.specs.Statement.{Repairs, Image, Proper, isDone, Accepted, stopped, whole, here}
 use Rattle.crash.specs.Theorem.{whole-kept, survivor-held, whole-view, stopped-held, cut-clean, mended-held, mended-view, mended-length}
@@ -256,7 +257,7 @@ free-and-needed d s l b a = record {
   files = count (y .end - s) (λ i. isFile π (view l) (blockAt π i));
   answer = ap (λ (x : Part). answers.inPartition x (λ e. checkIn (partitionOf d s e) (view l))) (y .held .good)
       ∙ ap (checkClean π (view l)) (clean-unmarred π (view l) (sound-clean π (view l) (y .is))) ∙ ap (λ (t : Bool). pick t (tallied π (view l)) (Refused Unsound)) (y .is)
-      ∙ ap₂ (λ (x z : ℕ). Done (count (y .end - s) (λ i. isFile π (view l) (blockAt π i))) x z) (owned-needed π (view l) low ∙ sym same) (sym (free-unowned π (view l) low (y .is)));
+      ∙ ap₂ (λ (x z : ℕ). Done (count (y .end - s) (λ i. isFile π (view l) (blockAt π i))) x z) (owned-needed π (view l) ∙ sym same) (sym (free-unowned π (view l) low (y .is)));
   total = ap₂ (λ (x z : ℕ). x + z) same refl ∙ (let q = counts.free-and-needed π (view l) low (y .is) in let z : needed π (view l) + pair (view l) s numberFreeAt ≡ y .end - s = omega arith in z) ∙ ap (λ (e : ℕ). e - s) (sym (end-is (y .held)));
 }
   where

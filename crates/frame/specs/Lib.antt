@@ -7,3 +7,4 @@ pub mod Restart
 pub mod Mended
 pub mod Fitting
 pub mod Clean
+pub mod Needed

@@ -14,7 +14,7 @@ use Rattle.drive.specs.Laws.{pda-back, lda-back, pda-pos}
 use Rattle.image.specs.View.{upd-same, upd-other, View, Rec, Store, after, upd, pair, put, put2}
 use Rattle.base.specs.Laws.{cons-same, and-left, and-right, and-both, all-at, all-of, all-same, pick-same, every-at, both-left, both-right, both-of, iff-eq}
 use Rattle.volume.specs.Words.{freeHeadAt, freeTailAt, nextAt, numberFreeAt}
-use Rattle.volume.specs.Files.{unowned, Partition, isLda, blockAt, ptrIndex, ptrSlot, inside, serial, candidate, len, ptrsFor, ptrs, indirect, ptr, entry, name, names, nth, size, wellFormed, isFile, placeOf, place, fileOf, owned, files, nextOf, prevOf, orNil, free, freeHead, chain, chained, linked, sound, freeSound, within}
+use Rattle.volume.specs.Files.{unowned, Partition, isLda, blockAt, ptrIndex, ptrSlot, inside, serial, candidate, len, ptrsFor, ptrs, indirect, ptr, entry, name, names, nth, size, wellFormed, isFile, placeOf, place, fileOf, owned, files, nextOf, prevOf, orNil, free, freeHead, chain, chained, linked, fileTest, sound, freeSound, within}
 use Rattle.volume.specs.Frame.{SameHead, same-serial, head-of, head-trans, Shape, Kept, kept-len, kept-ptrs, kept-ptr, kept-indirect, kept-entry, kept-nth, kept-size, kept-name, kept-head, kept-wellFormed}
 use Rattle.volume.specs.Owned.{Own, own, owned-by, member, member-owned, file-back, place-back, few-ptrs, Member, nth-fib, nth-ptr, nth-data, ptr-in, fib-in, data-in, owned-in, owned-not-pib}
 use Rattle.volume.specs.Agree.{Clean, Alike, Agree, alike, agree-file, agree-files, agree-clean, agree-owned, agree-unowned, agree-place, agree-fileOf, agree-head}
@@ -73,27 +73,32 @@ module _ (π : Partition) (v : View) where
           one (suc n) h = absurd (omega arith)
       go false ih h = let r = ih (omega arith) in record { rest = r .rest; is = ap (λ (l : List ℕ). b ∷ l) (r .is) }
 
+-- where every block passes its test a candidate is a linked file
+pub tested : (π : Partition) (v : View) → all (π .e - π .s) (fileTest π v) ≡ true → (f : ℕ) → candidate π v f ≡ true → both (wellFormed π v f) (linked π v f) ≡ true
+unfolding inside
+tested π v ok f c = go (candidate π v (suc ((π .s) + (f - suc (π .s))))) refl (all-at ((π .e) - (π .s)) _ ok (f - suc (π .s)) (omega (arith, lo, hi)))
+  where
+    n : inside π f ≡ true
+    n = cand-in π v f c
+
+    lo : (π .s) < f
+    lo = ltb-true (π .s) f (both-left _ _ n)
+
+    hi : f ≤ (π .e)
+    hi = leb-true f (π .e) (both-right _ _ n)
+
+    same : suc ((π .s) + (f - suc (π .s))) ≡ f
+    same = omega (arith, lo)
+
+    go : (t : Bool) → candidate π v (suc ((π .s) + (f - suc (π .s)))) ≡ t
+        → (not t || both (wellFormed π v (suc ((π .s) + (f - suc (π .s))))) (linked π v (suc ((π .s) + (f - suc (π .s)))))) ≡ true → both (wellFormed π v f) (linked π v f) ≡ true
+    go true q r = subst (λ (x : ℕ). both (wellFormed π v x) (linked π v x) ≡ true) same r
+    go false q r = absurd (true≢false (sym c ∙ sym (ap (candidate π v) same) ∙ q))
+
 module _ (π : Partition) (v : View) (ok : sound π v ≡ true) where
   formed : (f : ℕ) → candidate π v f ≡ true → both (wellFormed π v f) (linked π v f) ≡ true
-  unfolding sound freeSound inside
-  formed f c = go (candidate π v (suc ((π .s) + (f - suc (π .s))))) refl (all-at ((π .e) - (π .s)) _ (both-left _ _ ok) (f - suc (π .s)) (omega (arith, lo, hi)))
-    where
-      n : inside π f ≡ true
-      n = cand-in π v f c
-
-      lo : (π .s) < f
-      lo = ltb-true (π .s) f (both-left _ _ n)
-
-      hi : f ≤ (π .e)
-      hi = leb-true f (π .e) (both-right _ _ n)
-
-      same : suc ((π .s) + (f - suc (π .s))) ≡ f
-      same = omega (arith, lo)
-
-      go : (t : Bool) → candidate π v (suc ((π .s) + (f - suc (π .s)))) ≡ t
-          → (not t || both (wellFormed π v (suc ((π .s) + (f - suc (π .s))))) (linked π v (suc ((π .s) + (f - suc (π .s)))))) ≡ true → both (wellFormed π v f) (linked π v f) ≡ true
-      go true q r = subst (λ (x : ℕ). both (wellFormed π v x) (linked π v x) ≡ true) same r
-      go false q r = absurd (true≢false (sym c ∙ sym (ap (candidate π v) same) ∙ q))
+  unfolding sound
+  formed = tested π v (both-left _ _ ok)
 
   pub sound-clean : Clean π v
   sound-clean f c = both-left _ _ (formed f c)

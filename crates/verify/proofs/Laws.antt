@@ -1,38 +1,20 @@
--- What soundness gives to code: the free chain's blocks lie in the partition, and NumberFree is what check counts.
-use mathlib.Core.Path.{_≡_, ap, _∙_}
+-- What soundness gives to code: the free chain's first blocks lie in the partition, and NumberFree is its length.
+use mathlib.Core.Path.{_≡_, ap}
 use mathlib.Core.List.{_∷_}
 use mathlib.Core.Bool.{true}
-use Prim.Native.Nat.{ℕ, _+_, _-_, _≤_, _<_}
+use Prim.Native.Nat.{ℕ, _-_, _≤_, _<_}
 use native.Mathlib.Omega.{arith}
 use lib.ListN.{length}
-use Rattle.base.specs.Tests.{all, count, occ}
-use Rattle.base.specs.Laws.{both-right, every-at}
+use Rattle.base.specs.Tests.{occ}
 use Rattle.drive.specs.Address.{pdaBlock}
 use Rattle.image.specs.View.{View, pair}
 use Rattle.volume.specs.Words.{nextAt, numberFreeAt}
-use Rattle.volume.specs.Files.{Partition, blockAt, owned, free, freeHead, onceTest, freeSound, sound}
+use Rattle.volume.specs.Files.{Partition, free, freeHead, sound}
 use Rattle.volume.specs.Reads.{inside-of}
-use Rattle.frame.specs.Sound.{occ-here, occ-more, after₁, free-in, free-starts, head-free, sound-number, sound-some, sound-within}
-use Rattle.verify.specs.Walks.{freeAt}
-use Rattle.verify.proofs.Counts.{count-both}
-use Rattle.verify.proofs.Pigeon.{there-many}
+use Rattle.frame.specs.Sound.{occ-here, occ-more, after₁, free-in, free-starts, head-free, sound-number, sound-some}
 
 module _ (π : Partition) (v : View) where
   module _ (ok : sound π v ≡ true) where
-    sound-onces : all (π.e - π.s) (onceTest π v (free π v)) ≡ true
-    unfolding sound freeSound
-    sound-onces = every-at _ (both-right _ _ ok) 0
-
-    -- NumberFree is the number of blocks that are not owned, and at most that of all
-    pub number-is : pair v π.s numberFreeAt ≡ count (π.e - π.s) (freeAt π v)
-    number-is = sound-number π v ok ∙ there-many π v (free π v) (sound-within π v ok) sound-onces
-
-    rest-is : pair v π.s numberFreeAt + count (π.e - π.s) (λ i. owned π v (blockAt π i)) ≡ π.e - π.s
-    rest-is = let q = count-both (π.e - π.s) (λ i. owned π v (blockAt π i)) in omega (arith, number-is)
-
-    pub number-low : pair v π.s numberFreeAt ≤ π.e - π.s
-    number-low = omega (arith, rest-is)
-
     -- the first free block, and the second
     pub head-in : (π.s < freeHead π v) × (freeHead π v ≤ π.e)
     head-in = inside-of π (freeHead π v) (free-in π v ok (freeHead π v) (head-free π v ok))

@@ -6,7 +6,7 @@ use native.Mathlib.Omega.{arith}
 use native.Mathlib.Numerals.{add-one}
 use Rattle.base.specs.Tests.{pick, both, all, count}
 use Rattle.base.specs.Laws.{both-left, both-right, both-of, all-at}
-use Rattle.base.specs.Sums.{sum}
+use Rattle.base.specs.Sums.{sum, count-both}
 use Rattle.image.specs.View.{View}
 use Rattle.volume.specs.Files.{Partition, blockAt, candidate, wellFormed, linked, isFile, size, fileTest, owned, freeSound, sound}
 use Rattle.volume.specs.Answers.{lowestMalformed, Unmarred, checkIn, tallied}
@@ -14,6 +14,8 @@ use Rattle.volume.specs.Owned.{wf-of, few-ptrs}
 use Rattle.volume.specs.Agree.{Clean}
 use Rattle.volume.specs.Reads.{candidate-in}
 use Rattle.frame.specs.Clean.{of-clean}
+use Rattle.frame.specs.Needed.{needed, owned-needed}
+use Rattle.frame.specs.Sound.{tested}
 use Rattle.volume.specs.Steps.{both-no}
 use Rattle.volume.specs.declared.Found.{Found}
 use Rattle.volume.specs.declared.Found.the-variants.{At, Nothing}
@@ -25,8 +27,6 @@ use Rattle.verify.specs.declared.Standing.{Standing}
 use Rattle.verify.specs.declared.Standing.the-variants as stands
 use Rattle.verify.specs.declared.Survey.{Survey}
 use Rattle.verify.specs.declared.Survey.the-variants as found
-use Rattle.verify.proofs.Counts.{count-both}
-use Rattle.verify.proofs.Sizes.{owned-sizes}
 
 -- a standing, by its two tests, and back
 abbrev told : Bool → Bool → ℕ → Standing
@@ -165,33 +165,23 @@ module _ (π : Partition) (v : View) where
 
   -- no candidate is malformed where each is a linked file
   pub good-unmarred : all (π.e - π.s) (fileTest π v) ≡ true → Unmarred π v
-  good-unmarred h = of-clean π v clean
-    where
-      at : (c w : Bool) (l : Bool) → c ≡ true → (not c || both w l) ≡ true → w ≡ true
-      at true w l q t = both-left _ _ t
-      at false w l q t = absurd (false≢true q)
-
-      clean : Clean π v
-      clean f c =
-          let b = candidate-in π v f c in
-          let lo : π.s < f = b .0 in
-          let hi : f ≤ π.e = b .1 in
-          let i : ℕ = f - suc π.s in
-          let z : blockAt π i ≡ f = omega arith in
-          let t = all-at (π.e - π.s) (fileTest π v) h i (omega arith) in
-          ap (wellFormed π v) (sym z) ∙ at (candidate π v (blockAt π i)) _ _ (ap (candidate π v) z ∙ c) t
+  good-unmarred h = of-clean π v (λ f c. both-left _ _ (tested π v h f c))
 
   pub sound-unmarred : sound π v ≡ true → Unmarred π v
   unfolding sound
   sound-unmarred h = good-unmarred (both-left _ _ h)
 
   -- the blocks that no file has are free
+  sizes-owned : count (π.e - π.s) (λ i. owned π v (blockAt π i)) ≡ sum (π.e - π.s) (sizeAt π v)
+  unfolding needed
+  sizes-owned = owned-needed π v
+
   pub free-rest : (owned : ℕ) → owned ≡ sum (π.e - π.s) (sizeAt π v) → (owned ≤ π.e - π.s) × (π.e - π.s - owned ≡ count (π.e - π.s) (freeAt π v))
-  free-rest n q = let a = count-both (π.e - π.s) (λ i. owned π v (blockAt π i)) in let b = owned-sizes π v in (omega arith, omega arith)
+  free-rest n q = let a = count-both (π.e - π.s) (λ i. owned π v (blockAt π i)) in let b = sizes-owned in (omega arith, omega arith)
 
   pub tallied-is : (files owned : ℕ) → Sums files owned → Done files owned (π.e - π.s - owned) ≡ tallied π v
   unfolding tallied
-  tallied-is files n p = rw (free-rest n (p .blocks) .1, p .many, p .blocks, ← owned-sizes π v)
+  tallied-is files n p = rw (free-rest n (p .blocks) .1, p .many, p .blocks, ← sizes-owned)
 
   -- check, by what the pass found
   pub check-faulty-at : all (π.e - π.s) (fileTest π v) ≡ false → (f : ℕ) {x : Found} → x ≡ lowestMalformed π v → x ≡ At f → Refused (Malformed f) ≡ checkIn π v

@@ -5,6 +5,7 @@ use Rattle.base.specs.Tests.{pick, both, all, count}
 use Rattle.base.specs.Sums.{sum}
 use Rattle.image.specs.View.{View}
 use Rattle.volume.specs.Files.{Partition, blockAt, candidate, wellFormed, linked, isFile, size, fileTest}
+use Rattle.frame.specs.Needed.{needs}
 use Rattle.verify.specs.declared.Standing.{Standing}
 use Rattle.verify.specs.declared.Standing.the-variants as stands
 use Rattle.verify.specs.declared.Survey.{Survey}
@@ -16,7 +17,7 @@ module _ (π : Partition) (v : View) where
   fileAt i = isFile π v (blockAt π i)
 
   abbrev pub sizeAt : ℕ → ℕ
-  sizeAt i = pick (fileAt i) (size π v (blockAt π i)) 0
+  sizeAt i = needs π v (blockAt π i)
 
   -- block f is no candidate, a file that is linked, of so many blocks, or neither
   unfoldable pub standing : ℕ → Standing

@@ -39,7 +39,7 @@ pub enum Walk {
     Free(usize, usize),
 }
 
-// How a block stands: no candidate, a file of so many blocks that are linked, or a candidate that is neither well formed nor linked.
+// How a block stands: no candidate, a file of so many blocks that are linked, or a candidate that is not well formed or not linked.
 pub enum Standing {
     Other,
     Faulty,

@@ -1,4 +1,4 @@
--- The blocks that are owned are as many as the files have: each is counted once, at its place in its file. Assumes nothing.
+-- What the files need: the owned blocks are as many, each counted once, at its place in its file. Assumes nothing.
 use mathlib.Core.Path.{_≡_, refl, sym, ap, _∙_}
 use mathlib.Core.Bool.{Bool, true, false, true≢false}
 use Prim.Native.Nat.{ℕ, suc, _+_, _-_, _≤_, _<_}
@@ -12,7 +12,13 @@ use Rattle.image.specs.View.{View}
 use Rattle.volume.specs.Files.{Partition, blockAt, candidate, wellFormed, isFile, size, nth, fileOf, place, owned}
 use Rattle.volume.specs.Owned.{Own, own, member, member-owned, file-back, place-back}
 use Rattle.volume.specs.Reads.{inside-of, candidate-in}
-use Rattle.verify.specs.Survey.{sizeAt}
+
+-- how many blocks a file needs, or 0 where there is none; the sum over the partition
+abbrev pub needs : Partition → View → ℕ → ℕ
+needs π v f = pick (isFile π v f) (size π v f) 0
+
+unfoldable pub needed : Partition → View → ℕ
+needed π v = sum (π.e - π.s) (λ i. needs π v (blockAt π i))
 
 module _ (π : Partition) (v : View) where
   abbrev pub m : ℕ
@@ -71,9 +77,9 @@ module _ (π : Partition) (v : View) where
       go false q = refl
       go true q = absurd (true≢false (sym (own-of f i q .file) ∙ h))
 
-  pub owned-sizes : count m (λ i. owned π v (blockAt π i)) ≡ sum m (sizeAt π v)
-  unfolding isFile
-  owned-sizes = count-by π.s m m (λ i. owned π v (blockAt π i)) (λ i. fileOf π v (blockAt π i)) keyed ∙ sum-same m _ _ (λ j _. go j (isFile π v (blockAt π j)) refl)
+  pub owned-needed : count m (λ i. owned π v (blockAt π i)) ≡ needed π v
+  unfolding isFile needed
+  owned-needed = count-by π.s m m (λ i. owned π v (blockAt π i)) (λ i. fileOf π v (blockAt π i)) keyed ∙ sum-same m _ _ (λ j _. go j (isFile π v (blockAt π j)) refl)
     where
       keyed : (i : ℕ) → i < m → owned π v (blockAt π i) ≡ true → (π.s < fileOf π v (blockAt π i)) × (fileOf π v (blockAt π i) ≤ π.s + m)
       keyed i l o = let b = candidate-in π v _ (both-left _ _ (own π v (blockAt π i) o .file)) in (b .0, omega (arith, b .0, b .1))
