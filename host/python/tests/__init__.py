@@ -1,1 +1,3 @@
-"""The tests of tapermoss.py, one module for each group of calls; tools/python runs those that the library exports."""
+"""The tests of tapermoss.py: a module for each group of calls, of which tools/python runs those that the library exports,
+and those of the module as a whole, which always run.
+"""

@@ -1,0 +1,127 @@
+"""The module as a whole: refusals that are copied, the names and their type hints, and a library that is not there."""
+import ast
+import concurrent.futures
+import copy
+import inspect
+import multiprocessing
+import os
+import pickle
+import shutil
+import tempfile
+import typing
+import unittest
+
+import tapermoss
+from tapermoss import Drive, Refused
+
+from .apart import FOLDER, python
+from .sample import malformed
+
+
+class Refusals(unittest.TestCase):
+    def same(self, refusal, number, block, sentence):
+        self.assertIs(type(refusal), Refused)
+        self.assertEqual((refusal.number, refusal.block, str(refusal)), (number, block, sentence))
+
+    def test_a_copy_says_the_same(self):
+        for number in (*range(1, 11), 99):
+            refusal = Refused(number, 7 if number == 4 else 0)
+            whole = number, refusal.block, str(refusal)
+            for protocol in range(pickle.HIGHEST_PROTOCOL + 1):
+                self.same(pickle.loads(pickle.dumps(refusal, protocol)), *whole)
+            self.same(copy.copy(refusal), *whole)
+            self.same(copy.deepcopy(refusal), *whole)
+
+    def test_a_refusal_comes_from_another_process(self):
+        for method in multiprocessing.get_all_start_methods():
+            context = multiprocessing.get_context(method)
+            with self.subTest(method=method), concurrent.futures.ProcessPoolExecutor(1, context) as pool:
+                with self.assertRaises(Refused) as caught:
+                    pool.submit(tapermoss.check, malformed(Drive.FLOPPY), Drive.FLOPPY, 1).result(60)
+                self.same(caught.exception, 4, 2, 'refused (4): block 2 is a malformed file block')
+
+    def test_repair_is_not_promised_where_no_block_is_free(self):
+        sentence = 'refused (5): the partition is not sound; repair mends it unless no block is free'
+        self.assertEqual(str(Refused(5)), sentence)
+
+
+def defined():
+    """The public names that the text of the module defines, and not those that it imports."""
+    for node in ast.parse(inspect.getsource(tapermoss)).body:
+        if isinstance(node, (ast.FunctionDef, ast.ClassDef)):
+            names = [node.name]
+        else:
+            found = (part for part in ast.walk(node) if isinstance(part, ast.Name))
+            names = [name.id for name in found if isinstance(name.ctx, ast.Store)]
+        yield from (name for name in names if not name.startswith('_'))
+
+
+def functions():
+    """Every public function, and the module's own methods and properties of every public class."""
+    for thing in (getattr(tapermoss, name) for name in defined()):
+        parts = vars(thing).values() if inspect.isclass(thing) else [thing]
+        for part in (part.fget if isinstance(part, property) else part for part in parts):
+            if inspect.isfunction(part) and part.__module__ == tapermoss.__name__:
+                yield part
+
+
+class Names(unittest.TestCase):
+    def test_all_has_the_public_names(self):
+        self.assertEqual(sorted(tapermoss.__all__), sorted(defined()))
+
+    def test_every_function_has_its_hints(self):
+        found = list(functions())
+        self.assertGreater(len(found), 20)
+        for function in found:
+            with self.subTest(function=function.__qualname__):
+                asked = {'return', *inspect.signature(function).parameters} - {'self'}
+                self.assertEqual(set(typing.get_type_hints(function)), asked)
+
+    def test_every_field_has_its_hint(self):
+        named = {tapermoss.Summary: ['files', 'owned', 'free'], tapermoss.Shown: ['view', 'source'],
+                 tapermoss.Created: ['file', 'made'], tapermoss.Refused: ['number', 'block'],
+                 tapermoss.Answer: [name for name, _ in tapermoss.Answer._fields_]}
+        for kind, fields in named.items():
+            with self.subTest(kind=kind.__name__):
+                self.assertEqual(list(typing.get_type_hints(kind)), fields)
+
+    def test_what_is_changed_is_hinted_as_writable(self):
+        for call in (tapermoss.create, tapermoss.write, tapermoss.describe, tapermoss.destroy, tapermoss.repair):
+            self.assertEqual(typing.get_type_hints(call)['image'], tapermoss.Writable)
+        for call in (tapermoss.read, tapermoss.extract):
+            hints = typing.get_type_hints(call)
+            self.assertEqual((hints['image'], hints['buffer']), (tapermoss.Readable, tapermoss.Writable))
+
+
+FIRST_CALL = '''
+import tapermoss
+try:
+    tapermoss.lbn_to_pda(0, 0)
+except OSError as problem:
+    print(problem)
+'''
+
+
+class Library(unittest.TestCase):
+    def says(self, sentence, **settings):
+        status, said = python('-c', FIRST_CALL, **settings)
+        self.assertEqual(status, 0, said)
+        self.assertTrue(said.startswith(sentence), said)
+        self.assertIn('run `make python`', said)
+
+    def test_a_library_that_is_not_there(self):
+        with tempfile.TemporaryDirectory() as folder:
+            path = os.path.join(folder, 'nowhere', 'libperq.so')
+            self.says(f'the library {path} is not there', PYTHONPATH=FOLDER, TAPERMOSS_LIBRARY=path)
+
+    def test_a_checkout_without_a_library(self):
+        with tempfile.TemporaryDirectory() as folder:
+            module, path = os.path.join(folder, 'host', 'python'), os.path.join(folder, 'build', 'libperq.so')
+            os.makedirs(module)
+            shutil.copy(os.path.join(FOLDER, 'tapermoss.py'), module)
+            self.says(f'the library {path} is not there', PYTHONPATH=module)
+            self.says(f'the library {path} is not there', PYTHONPATH=module, TAPERMOSS_LIBRARY='')
+
+    def test_a_file_that_is_no_library(self):
+        with tempfile.NamedTemporaryFile(suffix='.so') as file:
+            self.says(f'the library {file.name} cannot be loaded', PYTHONPATH=FOLDER, TAPERMOSS_LIBRARY=file.name)
