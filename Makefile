@@ -29,10 +29,7 @@ setup:
 library: setup build/libperq.a
 
 build/libperq.a: crates.txt $(shell find crates 2>/dev/null)
-	@mkdir -p build
-	@echo 'proving and building the library; build/library.log has what the prover says'
-	@rt staticlib perq >build/library.log 2>&1 || { cat build/library.log; exit 1; }
-	@cp target/staticlib/libperq.a $@
+	@tools/library $@
 
 tool: library
 	@cd host && cargo build --offline --quiet --release -p tapermoss --no-default-features --features "$(FEATURES)"
