@@ -91,7 +91,9 @@ impl fmt::Display for Refusal {
                 out.write_str("the buffer does not have the length that the call fills or reads")
             }
             Refusal::Malformed { block } => write!(out, "block {block} is a malformed file block"),
-            Refusal::Unsound => out.write_str("the partition is not sound; repair mends it"),
+            Refusal::Unsound => {
+                out.write_str("the partition is not sound; repair mends it unless no block is free")
+            }
             Refusal::NoFile => out.write_str("this block is no file of the partition"),
             Refusal::Range => out.write_str("the block number is beyond what the file can have"),
             Refusal::Full => out.write_str("the partition has too few free blocks"),

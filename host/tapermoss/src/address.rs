@@ -1,10 +1,15 @@
 //! `tapermoss address`: one block, named in each of the four ways.
 
+use crate::drive;
+use crate::names::shown;
 use crate::problem::Problem;
-use crate::{drive, output};
+use crate::told::Told;
 use clap::{Args, ValueEnum};
 use perq::{Drive, Refusal, Words};
+use serde_json::json;
 use std::fmt::Display;
+use std::num::{IntErrorKind, ParseIntError};
+use std::path::Path;
 
 pub const EXAMPLES: &str = "\
 Examples:
@@ -74,27 +79,36 @@ fn block(arguments: &Arguments) -> Result<u32, Problem> {
         (Kind::Pda, Some(high)) => perq::pda_to_lbn(drive, octal(first, high)?)?,
         (Kind::Lda, Some(high)) => perq::lda_to_lbn(drive, octal(first, high)?)?,
         (Kind::Lbn | Kind::Fileid, Some(_)) => {
-            return Err(Problem::Usage("an LBN or a FileID is one number".into()))
+            return Err(Problem::usage("an LBN or a FileID is one number"))
         }
         (Kind::Pda | Kind::Lda, None) => {
-            return Err(Problem::Usage("an address is two words: low and high".into()))
+            return Err(Problem::usage("an address is two words: low and high"))
         }
     })
 }
 
 fn decimal(text: &str) -> Result<u32, Problem> {
-    text.parse().map_err(|_| Problem::Usage(format!("{text} is not a decimal number")))
+    text.parse().map_err(|error| no_number(text, &error, "a decimal number from 0 up", "32 bits"))
 }
 
 fn octal(low: &str, high: &str) -> Result<u32, Problem> {
     let word = |text: &str| {
         u16::from_str_radix(text, 8)
-            .map_err(|_| Problem::Usage(format!("{text} is not a word in octal")))
+            .map_err(|error| no_number(text, &error, "a word in octal", "16 bits"))
     };
     Ok(u32::from(word(low)?) + 65_536 * u32::from(word(high)?))
 }
 
-pub fn run(arguments: &Arguments) -> Result<(), Problem> {
+/// Why a text is not the number that it should be.
+fn no_number(text: &str, error: &ParseIntError, sort: &str, room: &str) -> Problem {
+    let text = shown(Path::new(text));
+    Problem::usage(match error.kind() {
+        IntErrorKind::PosOverflow => format!("{text} is too large: it has more than {room}"),
+        _ => format!("'{text}' is not {sort}"),
+    })
+}
+
+pub fn run(arguments: &Arguments) -> Result<Told, Problem> {
     let drive = arguments.drive;
     let names = names(drive, block(arguments)?)?;
     let rows = [
@@ -104,5 +118,9 @@ pub fn run(arguments: &Arguments) -> Result<(), Problem> {
         format!("LDA     {} O\n", names.lda),
         format!("FileID  {}\n", or_refusal(&names.fileid)),
     ];
-    output::text(&rows.concat())
+    let fields = json!({
+        "drive": drive.number(), "lbn": names.lbn, "pda": names.pda.0, "lda": names.lda.0,
+        "fileid": names.fileid.ok(),
+    });
+    Ok(Told::done(rows.concat(), fields))
 }

@@ -1,12 +1,15 @@
 //! `tapermoss cat`: a whole file to standard output.
 
 use crate::image::{PartitionArguments, Reading};
-use crate::output;
+use crate::names::hex;
 use crate::problem::Problem;
+use crate::told::Told;
 use clap::Args;
+use perq::DATA;
+use serde_json::json;
 
 pub const EXAMPLES: &str = "\
-All 512 bytes of every block come out, those behind the end of a text in its last block too.
+All 512 bytes of every block come out, those behind the end of a text in its last block too; with --json in hex.
 
 Examples:
   tapermoss cat disk.img --file 211 > letter.text
@@ -21,9 +24,10 @@ pub struct Arguments {
     file: u32,
 }
 
-pub fn run(arguments: &Arguments) -> Result<(), Problem> {
-    let image = Reading::open(&arguments.place)?;
-    let bytes = perq::whole_file(&image.bytes, image.drive, image.s, arguments.file)
-        .map_err(|refusal| image.asked().file(arguments.file).refused(refusal))?;
-    output::bytes(&bytes)
+pub fn run(arguments: &Arguments) -> Result<Told, Problem> {
+    let (image, file) = (Reading::open(&arguments.place)?, arguments.file);
+    let bytes = perq::whole_file(&image.bytes, image.drive, image.s, file)
+        .map_err(|refusal| image.asked().file(file).refused(refusal))?;
+    let fields = json!({"file": file, "blocks": bytes.len() / DATA, "bytes": hex(&bytes)});
+    Ok(Told::done(bytes, fields))
 }

@@ -37,6 +37,18 @@ pub fn pair(image: &[u8], b: u32, k: usize) -> u32 {
     u32::from(word(image, b, k)) + 65_536 * u32::from(word(image, b, k + 1))
 }
 
+/// The serial in the header of block b.
+pub fn serial(image: &[u8], b: u32) -> u32 {
+    let at = RECORD * b as usize;
+    u32::from_le_bytes([image[at], image[at + 1], image[at + 2], image[at + 3]])
+}
+
+/// The relative number in the header of block b.
+pub fn relative_number(image: &[u8], b: u32) -> i16 {
+    let at = RECORD * b as usize + 4;
+    i16::from_le_bytes([image[at], image[at + 1]])
+}
+
 /// Bytes as a text: what cannot be printed is escaped.
 pub fn escaped(bytes: &[u8]) -> String {
     let shown = |&byte: &u8| match byte {
@@ -48,16 +60,16 @@ pub fn escaped(bytes: &[u8]) -> String {
 }
 
 /// The name of a partition or of the device: up to eight characters, blanks or zeros after them.
-pub fn partition_name(image: &[u8], b: u32) -> String {
+pub fn partition_name(image: &[u8], b: u32) -> &[u8] {
     let bytes = &image[place(b, PARTITION_NAME)..][..8];
     let length =
         bytes.iter().rposition(|&byte| byte != 0 && byte != b' ').map_or(0, |last| last + 1);
-    escaped(&bytes[..length])
+    &bytes[..length]
 }
 
 /// The name of a file, from its description: a length and so many characters. None if the length is 0 or more than
 /// there is room for.
-pub fn file_name(description: &[u8; DESCRIPTION]) -> Option<String> {
+pub fn file_name(description: &[u8; DESCRIPTION]) -> Option<&[u8]> {
     let length = usize::from(description[NAME_AT]);
-    (1..=NAME_ROOM).contains(&length).then(|| escaped(&description[NAME_AT + 1..][..length]))
+    (1..=NAME_ROOM).contains(&length).then(|| &description[NAME_AT + 1..][..length])
 }

@@ -1,13 +1,16 @@
 //! New files that are whole or not there. The bytes go to a temporary file in the same folder, and only when they are on
 //! the disk does that file get the name; the folder is then written out too. A program that is killed leaves at most a
-//! temporary file behind, `.NAME.PROCESS.part`, which nothing reads.
+//! temporary file behind, `.NAME.PROCESS-NUMBER.part`, which nothing reads and which the next run names.
 
+use crate::names::shown;
+use crate::outcome::Outcome;
+use crate::part::{folder, left_behind, Part};
 use crate::problem::Problem;
 use std::ffi::OsString;
-use std::fs::{self, File, OpenOptions, Permissions};
+use std::fs::{self, File, FileTimes, Metadata};
 use std::io::{self, ErrorKind, Write};
+use std::os::unix::fs::{fchown, MetadataExt};
 use std::path::{Path, PathBuf};
-use std::process;
 
 /// What becomes of a file that has the name already.
 #[derive(Clone, Copy, Debug, PartialEq, Eq)]
@@ -16,6 +19,26 @@ pub enum Existing {
     Kept,
     /// The new file takes its place in one step.
     Replaced,
+}
+
+impl Existing {
+    pub fn under(force: bool) -> Existing {
+        if force {
+            return Existing::Replaced;
+        }
+        Existing::Kept
+    }
+}
+
+/// What a new file has in common with another one.
+#[derive(Clone, Copy)]
+pub enum Like<'a> {
+    /// Nothing: it is a file as any program makes it.
+    New,
+    /// It holds what the other holds, so only whom the other lets may read it, at no moment anyone else.
+    Mode(&'a Metadata),
+    /// It takes the other's place: owner, mode and times are kept, where the system allows it.
+    Itself(&'a Metadata),
 }
 
 /// The path with an ending after the whole name.
@@ -27,96 +50,90 @@ pub fn beside(path: &Path, ending: &str) -> PathBuf {
 
 /// Refuses a name that is taken, or that is a file which must not be touched.
 pub fn must_be_free(path: &Path, existing: Existing, untouched: &Path) -> Result<(), Problem> {
-    if let (Ok(one), Ok(other)) = (fs::canonicalize(path), fs::canonicalize(untouched)) {
-        if one == other {
-            return Err(Problem::Usage(format!("{} is the image itself", path.display())));
-        }
-    }
+    must_be_another(path, untouched)?;
     match existing {
         Existing::Kept if is_taken(path) => Err(taken(path)),
         _ => Ok(()),
     }
 }
 
-fn is_taken(path: &Path) -> bool {
+/// Refuses the name of a file which must not be touched.
+pub fn must_be_another(path: &Path, untouched: &Path) -> Result<(), Problem> {
+    match (fs::canonicalize(path), fs::canonicalize(untouched)) {
+        (Ok(one), Ok(other)) if one == other => {
+            Err(Problem::usage(format!("{} is the image itself", shown(path))))
+        }
+        _ => Ok(()),
+    }
+}
+
+pub fn is_taken(path: &Path) -> bool {
     fs::symlink_metadata(path).is_ok()
 }
 
-fn taken(path: &Path) -> Problem {
-    Problem::System(format!("{} is there already; --force replaces it", path.display()))
+/// What is said of a name that is taken.
+pub fn taken(path: &Path) -> Problem {
+    let told = match fs::symlink_metadata(path) {
+        Ok(metadata) if metadata.is_dir() => format!("{} is there already, a folder", shown(path)),
+        _ => format!("{} is there already; --force replaces it", shown(path)),
+    };
+    Problem::new(Outcome::AnotherFile, told)
 }
 
-/// Puts a file there, whole.
+/// Puts a file there, whole; answers what there is to say about it.
 pub fn put(
     path: &Path,
     bytes: &[u8],
-    permissions: Option<Permissions>,
+    like: Like,
     existing: Existing,
-) -> Result<(), Problem> {
-    written(path, bytes, permissions, existing).map_err(|error| match error.kind() {
+) -> Result<Vec<String>, Problem> {
+    let mut notes = left_behind(path);
+    let kept = written(path, bytes, like, existing).map_err(|error| match error.kind() {
         ErrorKind::AlreadyExists => taken(path),
         _ => Problem::system("write", path, &error),
-    })
+    })?;
+    if !kept {
+        notes.push(format!(
+            "{} has another owner or group now: the system did not allow it to be kept",
+            shown(path)
+        ));
+    }
+    Ok(notes)
 }
 
-fn written(
-    path: &Path,
-    bytes: &[u8],
-    permissions: Option<Permissions>,
-    existing: Existing,
-) -> io::Result<()> {
-    let folder = match path.parent() {
-        Some(folder) if folder != Path::new("") => folder,
-        _ => Path::new("."),
-    };
-    let (part, mut file) = Part::create(folder, path)?;
+/// Answers whether the owner is who it should be.
+fn written(path: &Path, bytes: &[u8], like: Like, existing: Existing) -> io::Result<bool> {
+    let folder = folder(path);
+    let mode = if matches!(like, Like::New) { 0o666 } else { 0o600 };
+    let (part, mut file) = Part::create(folder, path, mode)?;
     file.write_all(bytes)?;
-    if let Some(permissions) = permissions {
-        file.set_permissions(permissions)?;
-    }
+    let kept = alike(&file, like)?;
     file.sync_all()?;
     part.publish(path, existing)?;
-    File::open(folder)?.sync_all()
+    File::open(folder)?.sync_all()?;
+    Ok(kept)
 }
 
-/// A temporary file. It is removed again unless it got its name.
-struct Part(PathBuf);
-
-impl Part {
-    fn create(folder: &Path, path: &Path) -> io::Result<(Part, File)> {
-        let name = path.file_name().ok_or(ErrorKind::InvalidInput)?;
-        for number in 0.. {
-            let mut hidden = OsString::from(".");
-            hidden.push(name);
-            hidden.push(format!(".{}-{number}.part", process::id()));
-            let part = folder.join(hidden);
-            match OpenOptions::new().write(true).create_new(true).open(&part) {
-                Err(error) if error.kind() == ErrorKind::AlreadyExists => {}
-                opened => return opened.map(|file| (Part(part), file)),
-            }
-        }
-        unreachable!("some number is free")
+/// Gives a file owner, mode and times. The owner first: a change of owner takes some of the mode away.
+fn alike(file: &File, like: Like) -> io::Result<bool> {
+    let (metadata, itself) = match like {
+        Like::New => return Ok(true),
+        Like::Mode(metadata) => (metadata, false),
+        Like::Itself(metadata) => (metadata, true),
+    };
+    let kept = !itself || owned_as(file, metadata)?;
+    file.set_permissions(metadata.permissions())?;
+    if itself {
+        let times = FileTimes::new().set_accessed(metadata.accessed()?);
+        file.set_times(times.set_modified(metadata.modified()?))?;
     }
-
-    /// Gives the file its name. A link, unlike a renaming, never takes the place of another file; where the file
-    /// system has no links, the name is looked at once more.
-    fn publish(self, path: &Path, existing: Existing) -> io::Result<()> {
-        if existing == Existing::Kept {
-            match fs::hard_link(&self.0, path) {
-                Ok(()) => return Ok(()),
-                Err(error) if error.kind() == ErrorKind::AlreadyExists || is_taken(path) => {
-                    return Err(ErrorKind::AlreadyExists.into())
-                }
-                Err(_) => {}
-            }
-        }
-        fs::rename(&self.0, path)
-    }
+    Ok(kept)
 }
 
-impl Drop for Part {
-    fn drop(&mut self) {
-        // After a renaming there is none; one that cannot be removed is left.
-        let _ = fs::remove_file(&self.0);
-    }
+/// Gives a file the owner and the group of another one, each if the system allows it; answers whether it has both.
+fn owned_as(file: &File, other: &Metadata) -> io::Result<bool> {
+    let own = file.metadata()?;
+    let group = own.gid() == other.gid() || fchown(file, None, Some(other.gid())).is_ok();
+    let owner = own.uid() == other.uid() || fchown(file, Some(other.uid()), None).is_ok();
+    Ok(group && owner)
 }

@@ -1,103 +1,92 @@
-//! tapermoss: the command-line tool. A refusal of the library is one sentence and exit status 1, a wrong use status 2.
-//! A command is compiled in where the library exports the calls that it needs.
+//! tapermoss: the command-line tool. What a command has to say is a `Told`: a text or, with --json, one object, and the
+//! exit status.
 
 mod address;
-#[cfg(feature = "reading")]
 mod asked;
-#[cfg(feature = "changing")]
 mod batch;
-#[cfg(feature = "reading")]
 mod cat;
-#[cfg(feature = "changing")]
 mod changing;
-#[cfg(feature = "reading")]
 mod check;
 mod drive;
-#[cfg(feature = "reading")]
 mod fields;
-#[cfg(feature = "reading")]
 mod files;
-#[cfg(feature = "reading")]
 mod image;
-#[cfg(feature = "reading")]
 mod keep;
-#[cfg(feature = "reading")]
+mod layout;
+mod lock;
 mod map;
+mod mend;
+mod names;
+mod outcome;
 mod output;
-#[cfg(feature = "reading")]
+mod part;
 mod partitions;
 mod problem;
-#[cfg(feature = "reading")]
+mod repairing;
+mod rows;
 mod show;
+mod told;
 mod tour;
-#[cfg(feature = "reading")]
 mod volume;
 
-#[cfg(feature = "changing")]
 use changing::{create, describe, destroy, fresh, repair, write};
 use clap::{Parser, Subcommand};
 use problem::Problem;
+use serde_json::json;
+use std::ffi::OsString;
+use std::path::Path;
 use std::process::ExitCode;
+use told::Told;
 
 #[derive(Parser)]
-#[command(version, about = "Reads, edits and repairs PERQ disk images")]
+#[command(version, about = "Reads, edits and repairs PERQ disk images", after_help = outcome::STATUSES)]
 struct Arguments {
     #[command(subcommand)]
     command: Command,
+    /// Print one JSON object, whatever comes of it
+    #[arg(long, global = true)]
+    json: bool,
 }
 
 #[derive(Subcommand)]
 enum Command {
     /// List the good partitions of an image, and which of them the device's own table lists
-    #[cfg(feature = "reading")]
     #[command(after_help = partitions::EXAMPLES)]
     Partitions(partitions::Arguments),
-    /// Say whether a partition is sound, and what it holds
-    #[cfg(feature = "reading")]
+    /// Say whether the partitions of an image are sound, and what they hold
     #[command(after_help = check::EXAMPLES)]
     Check(check::Arguments),
     /// List the files of a partition
-    #[cfg(feature = "reading")]
     #[command(after_help = files::EXAMPLES)]
     Files(files::Arguments),
     /// Print a whole file
-    #[cfg(feature = "reading")]
     #[command(after_help = cat::EXAMPLES)]
     Cat(cat::Arguments),
     /// Show one block of a file, from an image or from a pair
-    #[cfg(feature = "reading")]
     #[command(after_help = show::EXAMPLES)]
     Show(show::Arguments),
     /// Draw a partition as SVG and PNG
-    #[cfg(feature = "reading")]
     #[command(after_help = map::EXAMPLES)]
     Map(map::Arguments),
-    /// Repair a partition, into a new image beside the old one
-    #[cfg(feature = "changing")]
+    /// Repair the partitions of an image, into a new image beside the old one
     #[command(after_help = repair::EXAMPLES)]
     Repair(repair::Arguments),
     /// Go over a folder of images: leave the sound ones, repair the others, report the rest
-    #[cfg(feature = "changing")]
     #[command(after_help = batch::EXAMPLES)]
     Batch(batch::Arguments),
     /// Make an empty file
-    #[cfg(feature = "changing")]
     #[command(after_help = create::EXAMPLES)]
     Create(create::Arguments),
     /// Write bytes into a file
-    #[cfg(feature = "changing")]
     #[command(after_help = write::EXAMPLES)]
     Write(write::Arguments),
     /// Set a file's name or its whole description
-    #[cfg(feature = "changing")]
     #[command(after_help = describe::EXAMPLES)]
     Describe(describe::Arguments),
     /// Give a file's blocks to the free chain
-    #[cfg(feature = "changing")]
     #[command(after_help = destroy::EXAMPLES)]
     Destroy(destroy::Arguments),
     /// Make a new image with one fresh partition
-    #[cfg(feature = "changing")]
     #[command(after_help = fresh::EXAMPLES)]
     Fresh(fresh::Arguments),
     /// Name a block in every way: LBN, PDA, LDA and FileID
@@ -108,48 +97,57 @@ enum Command {
     Tour,
 }
 
-fn run(command: &Command) -> Result<(), Problem> {
+fn run(command: &Command) -> Result<Told, Problem> {
     match command {
-        #[cfg(feature = "reading")]
         Command::Partitions(arguments) => partitions::run(arguments),
-        #[cfg(feature = "reading")]
         Command::Check(arguments) => check::run(arguments),
-        #[cfg(feature = "reading")]
         Command::Files(arguments) => files::run(arguments),
-        #[cfg(feature = "reading")]
         Command::Cat(arguments) => cat::run(arguments),
-        #[cfg(feature = "reading")]
         Command::Show(arguments) => show::run(arguments),
-        #[cfg(feature = "reading")]
         Command::Map(arguments) => map::run(arguments),
-        #[cfg(feature = "changing")]
         Command::Repair(arguments) => repair::run(arguments),
-        #[cfg(feature = "changing")]
-        Command::Batch(_) => unreachable!("it has its own exit statuses"),
-        #[cfg(feature = "changing")]
+        Command::Batch(arguments) => batch::run(arguments),
         Command::Create(arguments) => create::run(arguments),
-        #[cfg(feature = "changing")]
         Command::Write(arguments) => write::run(arguments),
-        #[cfg(feature = "changing")]
         Command::Describe(arguments) => describe::run(arguments),
-        #[cfg(feature = "changing")]
         Command::Destroy(arguments) => destroy::run(arguments),
-        #[cfg(feature = "changing")]
         Command::Fresh(arguments) => fresh::run(arguments),
         Command::Address(arguments) => address::run(arguments),
         Command::Tour => tour::run(),
     }
 }
 
+/// What is said of a command line that is not one of a command: the help that was asked for, or what is wrong with it. It
+/// repeats words of that line, and a name among them may hold anything.
+fn not_a_command(error: &clap::Error, words: &[OsString]) -> Told {
+    let text = words.iter().fold(error.to_string(), |text, word| {
+        let (raw, shown) = (word.to_string_lossy(), names::shown(Path::new(word)));
+        let is_plain = raw.is_empty() || raw == shown;
+        if is_plain {
+            text
+        } else {
+            text.replace(&*raw, &shown)
+        }
+    });
+    if !error.use_stderr() {
+        return Told::done(text.clone(), json!({"text": text}));
+    }
+    // What is wrong stands before the first empty line, what would be right after it.
+    let wrong: Vec<&str> =
+        text.lines().map(str::trim).take_while(|line| !line.is_empty()).collect();
+    let wrong = wrong.join(" ");
+    let problem = Problem::usage(wrong.strip_prefix("error: ").unwrap_or("no command is named"));
+    Told { aside: vec![text.trim_end().to_string()], ..Told::from(problem) }
+}
+
 fn main() -> ExitCode {
-    let command = Arguments::parse().command;
-    let result = match &command {
-        #[cfg(feature = "changing")]
-        Command::Batch(arguments) => batch::run(arguments),
-        command => run(command).map(|()| ExitCode::SUCCESS),
-    };
-    result.unwrap_or_else(|problem| {
-        eprintln!("tapermoss: {problem}");
-        problem.status()
-    })
+    match Arguments::try_parse() {
+        Ok(arguments) => run(&arguments.command).unwrap_or_else(Told::from).say(arguments.json),
+        Err(error) => {
+            let words: Vec<OsString> = std::env::args_os().skip(1).collect();
+            let as_json =
+                words.iter().take_while(|word| *word != "--").any(|word| word == "--json");
+            not_a_command(&error, &words).say(as_json)
+        }
+    }
 }

@@ -1,9 +1,13 @@
 //! `tapermoss partitions`: every block at which a good partition starts, and what the device's own table says of it.
 
 use crate::asked::Asked;
-use crate::image::{map, the_drive, ImageArguments};
+use crate::drive::the_drive;
+use crate::image::{read, ImageArguments};
+use crate::layout::{Layout, Place, Standing};
+use crate::names::hex;
 use crate::problem::Problem;
-use crate::{fields, output, volume};
+use crate::told::Told;
+use crate::{fields, rows};
 use clap::Args;
 use perq::{Drive, RECORD};
 use serde_json::{json, Value};
@@ -19,87 +23,78 @@ Examples:
 pub struct Arguments {
     #[command(flatten)]
     image: ImageArguments,
-    /// Print JSON
-    #[arg(long)]
-    json: bool,
-}
-
-/// A good partition.
-struct Partition {
-    s: u32,
-    last: u32,
-    listed: bool,
-    name: String,
 }
 
 /// What is known of the whole image.
-struct Found {
+struct Found<'a> {
+    image: &'a [u8],
     drive: Drive,
-    blocks: usize,
-    device: String,
-    partitions: Vec<Partition>,
-    /// Blocks that the table lists and at which no good partition starts.
-    not_good: Vec<u32>,
+    layout: Layout,
 }
 
-fn find(image: &[u8], drive: Drive) -> Result<Found, perq::Refusal> {
-    let good = volume::good(image, drive)?;
-    let listed = volume::listed(image, drive);
-    let mut partitions = Vec::new();
-    for &s in &good {
-        let last = volume::last(image, drive, s)?;
-        let name = fields::partition_name(image, s);
-        partitions.push(Partition { s, last, listed: listed.contains(&s), name });
+impl Found<'_> {
+    fn blocks(&self) -> usize {
+        self.image.len() / RECORD
     }
-    let not_good = listed.into_iter().filter(|block| !good.contains(block)).collect();
-    let device = fields::partition_name(image, 0);
-    Ok(Found { drive, blocks: image.len() / RECORD, device, partitions, not_good })
+
+    /// The good partitions, with first and last block.
+    fn good(&self) -> impl Iterator<Item = (&Place, u32)> {
+        self.layout.places().filter_map(|place| Some((place, place.last?)))
+    }
+
+    fn not_good(&self) -> impl Iterator<Item = &Place> {
+        self.layout.places().filter(|place| place.standing == Standing::NotGood)
+    }
 }
 
 fn as_json(found: &Found) -> Value {
-    let partition = |p: &Partition| json!({"first": p.s, "last": p.last, "blocks": p.last - p.s + 1, "listed": p.listed, "name": p.name});
+    let partition = |(place, last): (&Place, u32)| {
+        let name = fields::partition_name(found.image, place.s);
+        let mut object = place.as_json();
+        object["blocks"] = json!(last - place.s + 1);
+        object["name"] = json!(fields::escaped(name));
+        object["name_bytes"] = json!(hex(name));
+        object
+    };
     json!({
         "drive": found.drive.number(),
-        "blocks": found.blocks,
-        "device": found.device,
-        "partitions": found.partitions.iter().map(partition).collect::<Vec<_>>(),
-        "listed_but_not_good": found.not_good,
+        "blocks": found.blocks(),
+        "device": fields::escaped(fields::partition_name(found.image, 0)),
+        "partitions": found.good().map(partition).collect::<Vec<_>>(),
+        "listed_but_not_good": found.not_good().map(|place| place.s).collect::<Vec<_>>(),
     })
 }
 
 /// A name, or a stroke for none.
-fn shown(name: &str) -> &str {
+fn shown(name: &[u8]) -> String {
     if name.is_empty() {
-        return "-";
+        return "-".to_string();
     }
-    name
+    fields::escaped(name)
 }
 
 fn as_text(found: &Found) -> String {
-    let Found { drive, blocks, .. } = *found;
-    let device = shown(&found.device);
+    let (drive, blocks) = (found.drive, found.blocks());
+    let device = shown(fields::partition_name(found.image, 0));
     let mut text =
         format!("drive   {} ({drive})\nblocks  {blocks}\ndevice  {device}\n\n", drive.number());
     text += " first   last  blocks  listed  name\n";
-    for p in &found.partitions {
-        let listed = if p.listed { "yes" } else { "no" };
-        let size = p.last - p.s + 1;
-        let (s, last, name) = (p.s, p.last, shown(&p.name));
+    for (place, last) in found.good() {
+        let listed = if place.listed { "yes" } else { "no" };
+        let (s, size) = (place.s, last - place.s + 1);
+        let name = shown(fields::partition_name(found.image, s));
         text += &format!("{s:>6} {last:>6}  {size:>6}  {listed:<6}  {name}\n");
     }
-    for block in &found.not_good {
-        text += &format!("the table lists block {block}, at which no good partition starts\n");
-    }
-    text
+    let doubts = found.layout.places().filter_map(Place::doubt);
+    let lines = rows::mentions(&found.layout, &[]).into_iter().chain(doubts);
+    text + &lines.map(|line| format!("{line}\n")).collect::<String>()
 }
 
-pub fn run(arguments: &Arguments) -> Result<(), Problem> {
-    let image = map(&arguments.image.image)?;
-    let drive = the_drive(&image, arguments.image.drive.drive)?;
-    let found =
-        find(&image, drive).map_err(|refusal| Asked::of(&image, drive, 0).refused(refusal))?;
-    if arguments.json {
-        return output::json(&as_json(&found));
-    }
-    output::text(&as_text(&found))
+pub fn run(arguments: &Arguments) -> Result<Told, Problem> {
+    let image = &read(&arguments.image.image)?;
+    let drive = the_drive(image, arguments.image.drive)?;
+    let layout =
+        Layout::of(image, drive).map_err(|refusal| Asked::of(image, drive, 0).refused(refusal))?;
+    let found = Found { image, drive, layout };
+    Ok(Told::done(as_text(&found), as_json(&found)))
 }

@@ -1,48 +1,56 @@
-//! What ends a command before it has done its work: the sentence that it is told in, and the exit status.
+//! What ends a command, or the work on one image or partition, before it is done: the outcome, the library's number and
+//! block where it has refused, and the sentence that it is told in.
 
+use crate::names::shown;
+use crate::outcome::Outcome;
 use perq::Refusal;
-use std::fmt;
-use std::process::ExitCode;
+use std::io;
+use std::path::Path;
 
-/// Why a command did not do what it was asked.
-#[derive(Debug)]
-pub enum Problem {
-    /// The library refused; the sentence has the number and the block.
-    Refused(String),
-    /// The command line asks for something that cannot be.
-    Usage(String),
-    /// The system: a file that is not there, cannot be read or cannot be written.
-    System(String),
+/// Why something was not done.
+#[derive(Clone, Debug)]
+pub struct Problem {
+    pub outcome: Outcome,
+    pub number: Option<u32>,
+    pub block: Option<u32>,
+    pub sentence: String,
 }
 
 impl Problem {
-    /// A wrong use has status 2, everything else 1.
-    pub fn status(&self) -> ExitCode {
-        match self {
-            Problem::Usage(_) => ExitCode::from(2),
-            Problem::Refused(_) | Problem::System(_) => ExitCode::from(1),
-        }
+    /// One that the library has no number for.
+    pub fn new(outcome: Outcome, sentence: String) -> Problem {
+        Problem { outcome, number: None, block: None, sentence }
+    }
+
+    /// A refusal, in words that say more than the library's own.
+    pub fn refused(refusal: Refusal, told: &str) -> Problem {
+        let block = match refusal {
+            Refusal::Malformed { block } => Some(block),
+            _ => None,
+        };
+        let number = refusal.number();
+        let sentence = format!("refused ({number}): {told}");
+        Problem { outcome: Outcome::Refused, number: Some(number), block, sentence }
+    }
+
+    pub fn usage(sentence: impl Into<String>) -> Problem {
+        Problem::new(Outcome::WrongUse, sentence.into())
     }
 
     /// A failure of the system over a file.
-    #[cfg(feature = "reading")]
-    pub fn system(deed: &str, path: &std::path::Path, error: &std::io::Error) -> Problem {
-        Problem::System(format!("cannot {deed} {}: {error}", path.display()))
+    pub fn system(deed: &str, path: &Path, error: &io::Error) -> Problem {
+        Problem::new(Outcome::Unreadable, format!("cannot {deed} {}: {error}", shown(path)))
     }
-}
 
-impl fmt::Display for Problem {
-    fn fmt(&self, out: &mut fmt::Formatter<'_>) -> fmt::Result {
-        match self {
-            Problem::Refused(text) | Problem::Usage(text) | Problem::System(text) => {
-                out.write_str(text)
-            }
-        }
+    /// The same, as what a person must decide.
+    pub fn set_aside(self) -> Problem {
+        Problem { outcome: Outcome::SetAside, ..self }
     }
 }
 
 impl From<Refusal> for Problem {
     fn from(refusal: Refusal) -> Problem {
-        Problem::Refused(refusal.to_string())
+        let sentence = refusal.to_string();
+        Problem { sentence, ..Problem::refused(refusal, "") }
     }
 }

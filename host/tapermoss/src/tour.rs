@@ -1,9 +1,11 @@
 //! `tapermoss tour`: the worked examples M1 to M8, converted by the library and held to the values worked out by hand.
 
 use crate::address::{names, or_refusal};
-use crate::output;
+use crate::outcome::Outcome;
 use crate::problem::Problem;
+use crate::told::Told;
 use perq::{Drive, Refusal, Words};
+use serde_json::json;
 
 /// One worked example: a block, and what is worked out for it.
 struct Example {
@@ -80,21 +82,24 @@ fn row(example: &Example) -> Result<(String, bool), Refusal> {
     Ok((row, fine))
 }
 
-pub fn run() -> Result<(), Problem> {
+pub fn run() -> Result<Told, Problem> {
     let mut text = "The worked examples, converted by the proved library; addresses in octal, low word first.\n\n".to_string();
     text += &format!(
         "{:<4} {:<21} {:>6}   {:<13}   {:<13}   {:>12}\n",
         "", "drive", "LBN", "PDA", "LDA", "FileID"
     );
-    let mut wrong = 0;
+    let (mut wrong, mut names) = (Vec::new(), Vec::new());
     for example in &examples() {
         let (row, fine) = row(example)?;
         text += &row;
-        wrong += u32::from(!fine);
+        names.push(example.name);
+        wrong.extend((!fine).then_some(example.name));
     }
-    output::text(&text)?;
-    match wrong {
-        0 => Ok(()),
-        _ => Err(Problem::Refused(format!("{wrong} of the examples are not as worked out"))),
+    let told = Told::done(text, json!({"examples": names, "wrong": wrong}));
+    if wrong.is_empty() {
+        return Ok(told);
     }
+    let sentence = format!("{} of the examples are not as worked out", wrong.len());
+    let problem = Problem::new(Outcome::Refused, sentence);
+    Ok(Told { out: told.out, fields: told.fields, ..Told::from(problem) })
 }

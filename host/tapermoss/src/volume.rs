@@ -32,6 +32,20 @@ pub fn last(image: &[u8], drive: Drive, s: u32) -> Result<u32, Refusal> {
     perq::lda_to_lbn(drive, fields::pair(image, s, PARTITION_END))
 }
 
+/// The files of a partition; none if it is not good.
+pub fn files_of(image: &[u8], drive: Drive, s: u32) -> impl Iterator<Item = u32> + '_ {
+    perq::files(image, drive, s).into_iter().flatten()
+}
+
+/// How many blocks of a partition have, read as a drive's, the serial and the relative number of a file's own block.
+pub fn candidates(image: &[u8], drive: Drive, s: u32, last: u32) -> u32 {
+    let is_one = |&block: &u32| {
+        perq::lbn_to_pda(drive, block).is_ok_and(|pda| pda == fields::serial(image, block))
+            && fields::relative_number(image, block) == -1
+    };
+    (s + 1..=last).filter(is_one).count() as u32
+}
+
 /// The blocks that the device's own table, at LBN 0, lists as the starts of partitions, good or not.
 pub fn listed(image: &[u8], drive: Drive) -> Vec<u32> {
     let lda = |i: usize| fields::pair(image, 0, SUB_PARTITIONS + 2 * i);
@@ -66,6 +80,19 @@ pub fn survey(image: &[u8], drive: Drive, s: u32) -> Result<Survey, Refusal> {
     Ok(survey)
 }
 
+/// The last block that a file can have.
+pub const LAST: u32 = 4_159;
+
+/// How many blocks a file of so many blocks of data needs, without its own one: the data and the pointer blocks.
+pub fn needed(length: u32) -> u32 {
+    length + pointers(length)
+}
+
+/// How many pointer blocks a file of so many blocks of data has.
+fn pointers(length: u32) -> u32 {
+    length.saturating_sub(64).div_ceil(128)
+}
+
 /// How many blocks of data a file has: L + 1.
 pub fn length(image: &[u8], f: u32) -> u32 {
     (fields::word(image, f, LAST_BLOCK) as i16 + 1) as u32
@@ -81,9 +108,8 @@ pub struct Index {
 pub fn index(image: &[u8], drive: Drive, f: u32) -> Index {
     let named = |block: u32, k: usize| perq::lda_to_lbn(drive, fields::pair(image, block, k)).ok();
     let length = length(image, f) as usize;
-    let pointers: Vec<u32> = (0..length.saturating_sub(64).div_ceil(128))
-        .filter_map(|i| named(f, INDIRECT + 2 * i))
-        .collect();
+    let pointers: Vec<u32> =
+        (0..pointers(length as u32) as usize).filter_map(|i| named(f, INDIRECT + 2 * i)).collect();
     let direct = (0..length.min(64)).filter_map(|r| named(f, DIRECT + 2 * r));
     let indirect =
         (64..length).filter_map(|r| named(*pointers.get((r - 64) / 128)?, 2 * ((r - 64) % 128)));

@@ -1,10 +1,12 @@
 //! A batch over a folder that holds every kind of image: each outcome, the report in both forms, the exit status, and that
 //! no file which was there has changed.
-#![cfg(feature = "changing")]
 
 mod common;
 
-use common::{full, malformed, printed, sample, set_bytes, set_word, tapermoss, unsound, Folder};
+use common::{
+    differing, full, hex, malformed, printed, sample, set_bytes, set_word, tapermoss, unsound,
+    Folder,
+};
 use reference::sample::scattered;
 use serde_json::{json, Value};
 use std::collections::BTreeMap;
@@ -77,23 +79,36 @@ fn all_kinds() -> Folder {
 
 const REPORT: &str = "\
 image              outcome
-a-sound.img        sound      3 files, 77 blocks owned, 348 free
-b-unsound.img      repaired   b-unsound.img.repaired: 3 files, 77 blocks owned, 348 free
-c-malformed.img    set aside  refused (4): block 7 is a malformed file block
-d-full.img         refused    refused (9): the partition at block 6 has no free block, so there is no chain to repair
-e-empty.img        refused    refused (1): the image is empty
-f-letter.txt       refused    refused (1): the image's 17 bytes are no whole number of 528-byte records
-g-zeros.img        refused    refused (2): no good partition starts at any block
-h-odd.img          refused    the image has 40 blocks, as no drive has: name its drive with --drive
-i-two.img          repaired   i-two.img.repaired: at 90 1 file, 3 blocks owned, 97 free; at 200 2 files, 4 blocks owned, 96 free
-j-torn.img         set aside  refused (4): block 201 is a malformed file block
-k-unlisted.img     refused    partitions start at blocks 6, 300, and the table lists none of them
-l-overlapping.img  refused    the partitions at blocks 6 and 300 overlap
-m-once.img         repaired   m-once.img.repaired: 3 files, 77 blocks owned, 348 free
-o-gone.img         refused    FOLDER: No such file or directory (os error 2)
+a-sound.img        sound         3 files, 77 blocks owned, 348 free
+b-unsound.img      repaired      b-unsound.img.repaired: 3 files, 77 blocks owned, 348 free
+c-malformed.img    set aside     refused (4): block 7 is a malformed file block
+d-full.img         refused       refused (9): the partition at block 6 has no free block, so there is no chain to repair
+e-empty.img        refused       refused (1): the image is empty
+f-letter.txt       refused       refused (1): the image's 17 bytes are no whole number of 528-byte records
+g-zeros.img        refused       refused (2): no good partition starts at any block
+h-odd.img          wrong use     the image has 40 blocks, as no drive has: name its drive with --drive; it has no file as any of the four
+i-two.img          repaired      i-two.img.repaired: 2 partitions
+  at block 90      sound         1 file, 3 blocks owned, 97 free
+  at block 200     repaired      2 files, 4 blocks owned, 96 free
+j-torn.img         set aside     2 partitions
+  at block 90      sound         1 file, 3 blocks owned, 97 free
+  at block 200     set aside     refused (4): block 201 is a malformed file block
+k-unlisted.img     set aside     2 partitions
+  at block 6       set aside     SHARED
+  at block 300     set aside     SHARED
+l-overlapping.img  set aside     2 partitions
+  at block 6       set aside     SHARED
+  at block 300     set aside     SHARED
+m-once.img         repaired      m-once.img.repaired: 1 partition
+  at block 6       repaired      3 files, 77 blocks owned, 348 free
+  at block 300     not taken     it looks like a partition, but shares blocks with that at block 6, which the table lists
+o-gone.img         unreadable    FOLDER: No such file or directory (os error 2)
 
-1 sound, 3 repaired, 2 set aside, 8 refused
+1 sound, 3 repaired, 4 set aside, 0 another file, 4 refused, 1 wrong use, 1 unreadable
 ";
+
+/// What is said of two partitions that share blocks.
+const SHARED: &str = "the partitions at blocks 6 and 300 share blocks, and the table does not decide between them: --partition names one";
 
 fn contents(folder: &Folder) -> BTreeMap<String, Vec<u8>> {
     let files = folder.names().into_iter().filter(|name| folder.path(name).is_file());
@@ -106,8 +121,9 @@ fn every_kind_has_its_outcome_and_no_file_is_touched() {
     let before = contents(&folder);
     let output = batch(&folder, &[]);
     let gone = format!("cannot read {}", folder.text("o-gone.img"));
-    assert_eq!(String::from_utf8_lossy(&output.stdout), REPORT.replace("FOLDER", &gone));
-    assert_eq!(output.status.code(), Some(5));
+    let report = REPORT.replace("FOLDER", &gone).replace("SHARED", SHARED);
+    assert_eq!(String::from_utf8_lossy(&output.stdout), report);
+    assert_eq!(output.status.code(), Some(5), "a file that cannot be read is the worst");
     let mut after = contents(&folder);
     for name in ["b-unsound.img", "i-two.img", "m-once.img"] {
         let repaired = after.remove(&format!("{name}.repaired")).expect("a repaired image");
@@ -138,27 +154,40 @@ fn the_report_as_json_is_the_same_with_any_number_of_jobs() {
         let output = batch(&folder, &["--json", "--jobs", jobs]);
         assert_eq!(output.status.code(), Some(5));
         let text = String::from_utf8(output.stdout).expect("text");
-        text.replace(folder.as_ref().to_str().expect("text"), "FOLDER")
+        let path = folder.as_ref().to_str().expect("text");
+        text.replace(path, "FOLDER").replace(&hex(path.as_bytes()), "BYTES")
     });
     assert!(reports.iter().all(|report| *report == reports[0]));
     let report: Value = serde_json::from_str(&std::mem::take(&mut reports[0])).expect("JSON");
-    let counts = ["sound", "repaired", "set_aside", "refused"].map(|name| report[name].clone());
-    assert_eq!(counts, [1, 3, 2, 8].map(Value::from));
-    assert_eq!(
-        report["images"][1],
-        json!({
-            "image": "b-unsound.img", "drive": 3, "outcome": "repaired", "earlier": false,
-            "repaired": "FOLDER/b-unsound.img.repaired",
-            "partitions": [{"first": 6, "files": 3, "owned": 77, "free": 348}],
-        })
-    );
-    assert_eq!(
-        report["images"][9],
-        json!({
-            "image": "j-torn.img", "drive": 0, "outcome": "set aside", "block": 201,
-            "sentence": "refused (4): block 201 is a malformed file block", "partitions": [],
-        })
-    );
+    let names =
+        ["sound", "repaired", "set_aside", "another_file", "refused", "wrong_use", "unreadable"];
+    assert_eq!(names.map(|name| report[name].clone()), [1, 3, 4, 0, 4, 1, 1].map(Value::from));
+    assert_eq!((&report["outcome"], &report["number"]), (&json!("unreadable"), &Value::Null));
+    assert_eq!(report["images"][1], unsound_as_json());
+    let torn = &report["images"][9];
+    let sentence = "refused (4): block 201 is a malformed file block";
+    for object in [torn, &torn["partitions"][1]] {
+        let fields = ["outcome", "number", "block", "sentence"].map(|name| object[name].clone());
+        assert_eq!(fields, [json!("set aside"), json!(4), json!(201), json!(sentence)]);
+    }
+    assert_eq!(torn["partitions"][0]["outcome"], "sound");
+}
+
+/// The second image of the folder, in the report.
+fn unsound_as_json() -> Value {
+    let mut expected = unsound();
+    reference::repair(&mut expected, 3, 6, u32::MAX);
+    let records = differing(&unsound(), &expected);
+    json!({
+        "image": "b-unsound.img", "name_bytes": hex(b"b-unsound.img"), "drive": 3,
+        "outcome": "repaired", "number": null, "block": null, "sentence": null,
+        "repaired": "FOLDER/b-unsound.img.repaired", "repaired_bytes": format!("BYTES{}", hex(b"/b-unsound.img.repaired")), "earlier": false, "not_taken": [], "notes": [],
+        "partitions": [{
+            "first": 6, "last": 431, "listed": false, "shares_with": null, "outcome": "repaired",
+            "number": null, "block": null, "sentence": null, "files": 3, "owned": 77, "free": 348,
+            "records_changed": records,
+        }],
+    })
 }
 
 #[test]
@@ -170,38 +199,36 @@ fn a_second_run_finds_the_repaired_images_of_the_first() {
     let repaired = folder.read("disk.repaired");
     let output = batch(&folder, &[]);
     let text = String::from_utf8(output.stdout).expect("text");
-    assert!(text.contains("disk   repaired   disk.repaired (there already): 3 files, "), "{text}");
-    assert!(text.ends_with("0 sound, 1 repaired, 0 set aside, 0 refused\n"), "{text}");
+    let line = "disk   repaired      disk.repaired (there already): 3 files, ";
+    assert!(text.contains(line), "{text}");
     assert!(folder.read("disk.repaired") == repaired);
 
-    folder.put("disk.repaired", &unsound());
-    let output = batch(&folder, &[]);
-    assert_eq!(output.status.code(), Some(5));
-    let text = String::from_utf8(output.stdout).expect("text");
-    assert!(
-        text.contains("disk.repaired is there already and is not sound: refused (5): "),
-        "{text}"
-    );
+    folder.put("disk.repaired", b"precious");
+    assert_eq!(batch(&folder, &[]).status.code(), Some(6));
+    assert_eq!(folder.read("disk.repaired"), b"precious");
     assert_eq!(batch(&folder, &["--force"]).status.code(), Some(3));
     assert!(folder.read("disk.repaired") == repaired);
 }
 
 #[test]
 fn the_exit_status_is_that_of_the_worst() {
-    let images = [("a", sample(), 0), ("b", unsound(), 3), ("c", malformed(), 4), ("d", full(), 5)];
+    let mut images = vec![("a", sample(), 0), ("b", unsound(), 3), ("c", malformed(), 4)];
+    images.extend([("d", full(), 1), ("e", vec![0; 528 * 40], 2)]);
     let folder = Folder::new();
     assert_eq!(batch(&folder, &[]).status.code(), Some(0));
     for (name, image, status) in images {
         folder.put(name, &image);
         assert_eq!(batch(&folder, &[]).status.code(), Some(status), "{name}");
     }
+    symlink("nowhere", folder.path("f")).expect("a link");
+    assert_eq!(batch(&folder, &[]).status.code(), Some(5));
 }
 
 #[test]
 fn a_drive_can_be_named_for_all() {
     let folder = Folder::new();
     folder.put("small", &scattered(0, 40, 1, 39, &[3, 0], 7));
-    assert_eq!(batch(&folder, &[]).status.code(), Some(5));
+    assert_eq!(batch(&folder, &[]).status.code(), Some(2));
     assert_eq!(batch(&folder, &["--drive", "0"]).status.code(), Some(0));
 }
 
@@ -220,10 +247,11 @@ fn a_folder_that_cannot_be_written_is_reported_image_by_image() {
 }
 
 #[test]
-fn a_batch_over_no_folder_is_status_1_or_2() {
+fn a_batch_over_no_folder_is_status_5_or_2() {
     let folder = Folder::new();
     let image = folder.put("disk", &sample());
-    common::fails(
+    common::fails_with(
+        5,
         &["batch", &image],
         &format!("cannot read {image}: Not a directory (os error 20)"),
     );

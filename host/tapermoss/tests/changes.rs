@@ -1,11 +1,11 @@
 //! The commands that change an image: what they make of it, where they put it, and every refusal. The expected images are
 //! those of the reference.
-#![cfg(feature = "changing")]
 
 mod common;
 
 use common::{
-    fails, full, malformed, misused, printed, sample, tapermoss, unsound, Folder, FLOPPY,
+    differing, fails, fails_with, full, malformed, misused, printed, printed_with, sample,
+    tapermoss, unsound, Folder, FLOPPY,
 };
 use reference::sample::{fresh, scattered};
 use std::fs;
@@ -117,21 +117,23 @@ fn destroy_frees_the_blocks() {
 fn repair_makes_the_other_half_of_the_pair() {
     let folder = Folder::new();
     let image = folder.put("disk", &unsound());
+    let mut expected = unsound();
+    reference::repair(&mut expected, FLOPPY, 6, ALL);
+    let changed = differing(&unsound(), &expected);
     let told = format!(
-        "before: refused (5): the partition at block 6 is not sound; repair mends it
-repair: 426 stores
-after:  sound, 3 files, 77 blocks owned, 348 free
+        "the partition at block 6 is repaired, {changed} records changed: 3 files, 77 blocks owned, 348 free
 written to {image}.repaired
 "
     );
-    assert_eq!(printed(&["repair", &image]), told);
-    let mut expected = unsound();
-    reference::repair(&mut expected, FLOPPY, 6, ALL);
+    assert_eq!(printed_with(3, &["repair", &image]), told);
     assert!(folder.read("disk.repaired") == expected);
     assert!(folder.read("disk") == unsound());
     let out = folder.text("cut");
-    let told = printed(&["repair", &image, "--limit", "425", "--output", &out]);
-    assert!(told.contains("repair: 425 stores, as many as the limit allows\nafter:  refused (5): "));
+    let output = tapermoss(&["repair", &image, "--limit", "425", "--output", &out]);
+    assert_eq!(output.status.code(), Some(1), "{output:?}");
+    let mut expected = unsound();
+    reference::repair(&mut expected, FLOPPY, 6, 425);
+    assert!(folder.read("cut") == expected);
 }
 
 #[test]
@@ -172,17 +174,23 @@ fn nothing_that_is_there_is_overwritten_unless_force_is_said() {
     folder.put("disk.new", b"precious");
     folder.put("disk.repaired", b"precious");
     let there = |ending| format!("{image}.{ending} is there already; --force replaces it");
-    fails(&["create", &image], &there("new"));
-    fails(&["destroy", &image, "--file", "7"], &there("new"));
-    fails(&["repair", &image], &there("repaired"));
-    fails(
+    fails_with(6, &["create", &image], &there("new"));
+    fails_with(6, &["destroy", &image, "--file", "7"], &there("new"));
+    let other = "is not what repair makes of this image; both are kept, and --force replaces it";
+    fails_with(
+        6,
+        &["repair", &image, "--anyway"],
+        &format!("there is another file: {image}.repaired {other}"),
+    );
+    fails_with(
+        6,
         &["fresh", &image, "--drive", "3"],
         &format!("{image} is there already; --force replaces it"),
     );
     symlink(folder.path("nowhere"), folder.path("link")).expect("a link");
     let link = folder.text("link");
     let taken = format!("{link} is there already; --force replaces it");
-    fails(&["create", &image, "--output", &link], &taken);
+    fails_with(6, &["create", &image, "--output", &link], &taken);
     assert!(folder.read("disk") == sample());
     assert_eq!(folder.read("disk.new"), b"precious");
     assert_eq!(folder.read("disk.repaired"), b"precious");
@@ -232,10 +240,11 @@ fn a_refused_command_writes_nothing() {
     let big = folder.put("big", &vec![1; 512 * 400]);
     fails(
         &["write", &image, "--file", "7", "--from", &big],
-        "refused (8): the partition at block 6 has too few free blocks",
+        "refused (8): file 7 needs 400 blocks more, and the partition at block 6 has 348 free, of which one must stay",
     );
     let nowhere = folder.text("no/such/folder");
-    fails(
+    fails_with(
+        5,
         &["create", &image, "--output", &nowhere],
         &format!("cannot write {nowhere}: No such file or directory (os error 2)"),
     );
@@ -273,7 +282,7 @@ fn refusals_that_every_changing_command_has() {
     }
     fails(&["repair", &ragged], one);
     fails(&["repair", &image, "--partition", "5"], two);
-    fails(&["repair", &broken], four);
+    fails_with(4, &["repair", &broken], four);
     assert!(folder.names().iter().all(|name| !name.contains('.')), "{:?}", folder.names());
 }
 
@@ -294,7 +303,10 @@ fn refusals_that_only_some_changing_commands_have() {
         "refused (7): file 7 cannot take block 4: it is not there, and not the next one",
     );
     fails(&["create", &tight], eight);
-    fails(&["write", &tight, "--file", "7", "--from", &short, "--block", "3"], eight);
+    fails(
+        &["write", &tight, "--file", "7", "--from", &short, "--block", "3"],
+        "refused (8): file 7 needs 1 block more, and the partition at block 6 has 1 free, of which one must stay",
+    );
     fails(
         &["repair", &full],
         "refused (9): the partition at block 6 has no free block, so there is no chain to repair",
@@ -336,6 +348,6 @@ fn no_temporary_file_stays_where_the_new_image_cannot_get_its_name() {
     let image = folder.put("disk", &sample());
     fs::create_dir(folder.path("disk.new")).expect("a folder");
     let output = tapermoss(&["create", &image, "--force"]);
-    assert_eq!(output.status.code(), Some(1), "{output:?}");
+    assert_eq!(output.status.code(), Some(5), "{output:?}");
     assert_eq!(folder.names(), ["disk", "disk.new"]);
 }

@@ -1,6 +1,5 @@
 //! The tool is killed again and again, at moments spread over its whole run: the image it was given is the same after each
 //! time, and the new one is not there or whole.
-#![cfg(feature = "changing")]
 
 mod common;
 

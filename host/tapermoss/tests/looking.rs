@@ -1,11 +1,10 @@
 //! The commands that only look at an image: what they print, every refusal, and how drive and partition are found.
-#![cfg(feature = "reading")]
 
 mod common;
 
 use common::{
-    fails, malformed, misused, printed, printed_bytes, sample, set_bytes, set_word, tapermoss,
-    unsound, Folder,
+    fails, fails_with, malformed, misused, printed, printed_bytes, printed_with, sample, set_bytes,
+    set_word, tapermoss, unsound, Folder,
 };
 use reference::sample::{content, scattered};
 use serde_json::{json, Value};
@@ -40,7 +39,10 @@ the table lists block 300, at which no good partition starts
     assert_eq!(found["listed_but_not_good"], json!([300]));
     assert_eq!(
         found["partitions"][0],
-        json!({"first": 6, "last": 431, "blocks": 426, "listed": true, "name": "USER\\x01"})
+        json!({
+            "first": 6, "last": 431, "blocks": 426, "listed": true, "shares_with": null,
+            "name": "USER\\x01", "name_bytes": "5553455201",
+        })
     );
 }
 
@@ -61,11 +63,13 @@ fn every_good_partition_is_found_and_the_unlisted_ones_said() {
         text.contains("     6    431     426  no      -\n   300    310      11  no      -\n"),
         "{text}"
     );
-    let told = misused(&["check", &image]);
+    let told = misused(&["files", &image]);
     assert_eq!(
         told,
         "tapermoss: the image has 2 partitions, at blocks 6, 300: name one with --partition\n"
     );
+    let line = "the partitions at blocks 6 and 300 share blocks, and the table does not decide between them: --partition names one\n";
+    assert_eq!(printed_with(4, &["check", &image]), format!("{line}{line}"));
     assert_eq!(
         printed(&["check", "--partition", "300", &image]),
         "the partition at block 300 is sound: 0 files, 0 blocks owned, 10 free\n"
@@ -80,7 +84,15 @@ fn check_tells_what_a_sound_partition_holds() {
     assert_eq!(printed(&["check", &image]), told);
     assert_eq!(printed(&["check", "--drive", "floppy", "--partition", "6", &image]), told);
     let found: Value = serde_json::from_str(&printed(&["check", "--json", &image])).expect("JSON");
-    assert_eq!(found, json!({"drive": 3, "partition": 6, "files": 3, "owned": 77, "free": 348}));
+    assert_eq!((&found["outcome"], &found["drive"]), (&json!("sound"), &json!(3)));
+    assert_eq!(
+        found["partitions"],
+        json!([{
+            "first": 6, "last": 431, "listed": false, "shares_with": null, "outcome": "sound",
+            "number": null, "block": null, "sentence": null, "files": 3, "owned": 77, "free": 348,
+            "records_changed": 0,
+        }])
+    );
 }
 
 #[test]
@@ -88,7 +100,7 @@ fn check_refuses_with_number_and_block() {
     let folder = Folder::new();
     let unsound = folder.put("unsound", &unsound());
     let malformed = folder.put("malformed", &malformed());
-    fails(&["check", &malformed], "refused (4): block 7 is a malformed file block");
+    fails_with(4, &["check", &malformed], "refused (4): block 7 is a malformed file block");
     let sentence = "refused (5): the partition at block 6 is not sound; repair mends it";
     fails(&["check", &unsound], sentence);
     fails(
@@ -126,7 +138,8 @@ fn a_size_that_no_drive_has_wants_the_drive() {
     let told = misused(&["check", &image]);
     assert_eq!(
         told,
-        "tapermoss: the image has 40 blocks, as no drive has: name its drive with --drive\n"
+        "tapermoss: the image has 40 blocks, as no drive has: name its drive with --drive; \
+         it has 2 files as drive 0 (Shugart 12 MB), 2 files as drive 1 (Shugart 24 MB)\n"
     );
     let told = printed(&["check", "--drive", "0", &image]);
     assert_eq!(told, "the partition at block 1 is sound: 2 files, 5 blocks owned, 33 free\n");
@@ -138,8 +151,9 @@ fn a_size_that_no_drive_has_wants_the_drive() {
 }
 
 #[test]
-fn a_file_that_is_not_there_is_status_1() {
-    fails(
+fn a_file_that_is_not_there_is_status_5() {
+    fails_with(
+        5,
         &["check", "no/such/image"],
         "cannot read no/such/image: No such file or directory (os error 2)",
     );
@@ -167,6 +181,7 @@ fn files_with_their_names() {
     let found: Value = serde_json::from_str(&printed(&["files", "--json", &image])).expect("JSON");
     let first = json!({
         "lbn": 7, "fileid": 57_351, "kind": 0, "blocks": 3, "in_use": 4, "name": "letter.text",
+        "name_bytes": "6c65747465722e74657874",
     });
     assert_eq!(found["files"][0], first);
     assert_eq!(found["files"][2]["name"], Value::Null);
@@ -234,8 +249,9 @@ fn show_tells_absent_and_each_refusal_apart() {
     let folder = Folder::new();
     let image = folder.put("disk", &sample());
     let show = |image, file, block| ["show", image, "--file", file, "--block", block];
-    assert_eq!(printed(&show(&image, "7", "3")), "file 7 has no block 3: it ends before\n");
-    assert_eq!(printed(&show(&image, "8", "4159")), "file 8 has no block 4159: it ends before\n");
+    let absent = |file, block| printed_with(7, &show(&image, file, block));
+    assert_eq!(absent("7", "3"), "file 7 has no block 3: it ends before\n");
+    assert_eq!(absent("8", "4159"), "file 8 has no block 4159: it ends before\n");
     fails(&show(&image, "7", "4160"), "refused (7): block 4160 is beyond what file 7 can have");
     fails(&show(&image, "6", "0"), "refused (6): block 6 is no file of the partition at block 6");
     let broken = folder.put("broken", &malformed());
@@ -272,7 +288,7 @@ fn from_a_pair_the_repaired_image_answers_unless_it_refuses() {
     );
 
     let absent = tapermoss(&show("7", "2"));
-    assert_eq!((absent.status.code(), absent.stdout.len()), (Some(0), 0));
+    assert_eq!((absent.status.code(), absent.stdout.len()), (Some(7), 0));
     assert_eq!(
         String::from_utf8_lossy(&absent.stderr),
         "the repaired image answered: file 7 has no block 2: it ends before\n"

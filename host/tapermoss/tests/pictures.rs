@@ -1,9 +1,8 @@
 //! The pictures: every block in its colour in both forms, and the files are what their names say.
-#![cfg(feature = "reading")]
 
 mod common;
 
-use common::{fails, malformed, misused, printed, sample, Folder};
+use common::{fails, fails_with, malformed, misused, printed, sample, Folder};
 use miniz_oxide::inflate::decompress_to_vec_zlib;
 use std::fs;
 
@@ -116,7 +115,7 @@ fn a_picture_overwrites_nothing() {
     let folder = Folder::new();
     let path = folder.put("disk.png", &sample());
     let taken = folder.put("disk.png.png", b"precious");
-    fails(&["map", &path], &format!("{taken} is there already; --force replaces it"));
+    fails_with(6, &["map", &path], &format!("{taken} is there already; --force replaces it"));
     let told = misused(&["map", &path, "--force", "--output", &path]);
     assert_eq!(told, format!("tapermoss: {path} is the image itself\n"));
     assert_eq!(folder.names(), ["disk.png", "disk.png.png"]);

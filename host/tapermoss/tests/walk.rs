@@ -1,6 +1,5 @@
 //! The walk-through of `make run`: it prints what examples/walk.out has and draws examples/map.svg, and docs/TOOL.md shows
 //! parts of it as they are.
-#![cfg(feature = "changing")]
 
 mod common;
 

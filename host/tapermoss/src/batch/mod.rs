@@ -1,22 +1,22 @@
 //! `tapermoss batch`: every image of a folder. Sound ones are left, unsound ones repaired beside the original, and what a
 //! person must look at is said at the end.
 
-mod judge;
 mod report;
 
-use crate::drive;
-use crate::output;
+use crate::drive::DriveArguments;
+use crate::keep;
+use crate::mend::{mend, Mended, Request};
+use crate::outcome::Outcome;
 use crate::problem::Problem;
+use crate::repairing::Wish;
+use crate::told::Told;
 use clap::Args;
 use indicatif::{ProgressBar, ProgressStyle};
-use judge::{judge, Judged, Outcome};
-use perq::Drive;
 use std::ffi::OsString;
 use std::fs;
 use std::num::NonZeroUsize;
 use std::panic::{catch_unwind, AssertUnwindSafe};
 use std::path::{Path, PathBuf};
-use std::process::ExitCode;
 use std::sync::atomic::{AtomicUsize, Ordering};
 use std::sync::Mutex;
 use std::thread;
@@ -24,13 +24,18 @@ use std::thread;
 pub const EXAMPLES: &str = "\
 Every file of the folder is taken for an image, but for hidden ones and for what this tool has put beside an image
 (IMAGE.repaired, IMAGE.svg, IMAGE.png); folders inside are not entered. Nothing is moved, and no image is changed. The
-partitions of an image are those that its table at LBN 0 lists or, where it lists none, the only one there is.
+partitions of an image are those that its table at LBN 0 lists, good or not, and every other good one that shares no block
+with one of them; each has its line in the report unless it is the only one. IMAGE.repaired holds the image with its unsound
+partitions repaired. One that is there already is compared with what repair makes of the image now.
 
-Outcomes and the exit status, which is that of the worst:
-  sound      0  every partition is sound
-  repaired   3  IMAGE.repaired holds the image with its partitions sound
-  set aside  4  refused by 4: a person must look at the block that is named
-  refused    5  anything else: no image, no partition, no drive, not readable
+What comes of an image is what comes of its worst partition, and the exit status is that of the worst image:
+  sound         0  every partition is sound
+  repaired      3  IMAGE.repaired holds the image with its partitions sound
+  set aside     4  a person must look: a malformed file block, files that repair would lose, partitions that share blocks
+  another file  6  IMAGE.repaired is there and is not this image's repair; both are kept
+  refused       1  the library refuses: no image, no good partition, no free block
+  wrong use     2  the drive is not known, or not the one that was named
+  unreadable    5  the system cannot read, write or lock it
 
 Examples:
   tapermoss batch images
@@ -40,18 +45,20 @@ Examples:
 pub struct Arguments {
     /// The folder of images
     folder: PathBuf,
-    /// The drive of all images: 0 or shugart12, 1 or shugart24, 2 or micropolis35, 3 or floppy [default: by their sizes]
-    #[arg(long, value_parser = drive::parse)]
-    drive: Option<Drive>,
+    #[command(flatten)]
+    drive: DriveArguments,
     /// How many images at a time [default: as many as there are cores]
     #[arg(long, value_name = "N")]
     jobs: Option<NonZeroUsize>,
-    /// Print JSON
-    #[arg(long)]
-    json: bool,
-    /// Replace repaired images that are there already
+    /// Replace repaired images that are there already, and repair where files may be lost
     #[arg(long)]
     force: bool,
+}
+
+/// An image that was looked at, or why it could not be.
+pub struct Judged {
+    pub name: OsString,
+    pub result: Result<Mended, Problem>,
 }
 
 /// The names of the images of a folder, in order.
@@ -77,15 +84,21 @@ fn is_image(folder: &Path, name: &OsString) -> bool {
     !hidden && !ours && !path.is_dir()
 }
 
-/// Judges one image; even a failure of this program ends only the one.
-fn judge_safely(arguments: &Arguments, name: &OsString) -> Judged {
+/// Repairs one image where that helps; even a failure of this program ends only the one.
+fn judge(arguments: &Arguments, name: &OsString) -> Judged {
     let path = arguments.folder.join(name);
-    let work = || judge(&path, arguments.drive, arguments.force);
-    catch_unwind(AssertUnwindSafe(work)).unwrap_or_else(|_| Judged {
-        drive: None,
-        partitions: Vec::new(),
-        outcome: Outcome::Refused("the tool failed on this image".to_string()),
-    })
+    let request = Request {
+        drive: arguments.drive,
+        partition: None,
+        to: Some(keep::beside(&path, ".repaired")),
+        wish: Wish { force: arguments.force, anyway: false },
+        limit: None,
+    };
+    let failed = || {
+        Err(Problem::new(Outcome::Unreadable, "the tool itself failed on this image".to_string()))
+    };
+    let result = catch_unwind(AssertUnwindSafe(|| mend(&path, &request)));
+    Judged { name: name.clone(), result: result.unwrap_or_else(|_| failed()) }
 }
 
 /// Judges all images, some at a time; answers them in the order of their names.
@@ -98,7 +111,7 @@ fn judge_all(arguments: &Arguments, names: &[OsString], bar: &ProgressBar) -> Ve
         for _ in 0..jobs {
             scope.spawn(|| {
                 while let Some((i, name)) = take(&next, names) {
-                    let judged = judge_safely(arguments, name);
+                    let judged = judge(arguments, name);
                     found.lock().expect("no job fails while it holds it").push((i, judged));
                     bar.inc(1);
                 }
@@ -116,18 +129,11 @@ fn take<'a>(next: &AtomicUsize, names: &'a [OsString]) -> Option<(usize, &'a OsS
     Some((i, names.get(i)?))
 }
 
-pub fn run(arguments: &Arguments) -> Result<ExitCode, Problem> {
+pub fn run(arguments: &Arguments) -> Result<Told, Problem> {
     let names = images(&arguments.folder)?;
     let style = ProgressStyle::with_template("{bar:40} {pos} of {len} images, {eta} left");
     let bar = ProgressBar::new(names.len() as u64).with_style(style.expect("a right template"));
     let judged = judge_all(arguments, &names, &bar);
     bar.finish_and_clear();
-    let rows: Vec<(String, Judged)> =
-        names.iter().map(|name| name.to_string_lossy().into_owned()).zip(judged).collect();
-    if arguments.json {
-        output::json(&report::as_json(&rows))?;
-    } else {
-        output::text(&report::as_text(&rows))?;
-    }
-    Ok(ExitCode::from(report::status(&rows)))
+    Ok(report::told(&judged))
 }

@@ -2,7 +2,9 @@
 
 use super::ChangeArguments;
 use crate::problem::Problem;
+use crate::told::Told;
 use clap::Args;
+use serde_json::json;
 
 pub const EXAMPLES: &str = "\
 The new image is IMAGE.new unless --output or --in-place is given. The file has no blocks and no name yet; `write` and
@@ -22,11 +24,12 @@ pub struct Arguments {
     kind: u16,
 }
 
-pub fn run(arguments: &Arguments) -> Result<(), Problem> {
-    arguments.change.carry_out(".new", |image| {
+pub fn run(arguments: &Arguments) -> Result<Told, Problem> {
+    arguments.change.carry_out(|image| {
         let created =
             perq::create(&mut image.bytes, image.drive, image.s, arguments.kind, image.left)
                 .map_err(|refusal| image.asked().refused(refusal))?;
-        Ok(format!("file {} created: {}", created.file, image.stores(created.made)))
+        let text = format!("file {} created: {}", created.file, image.stores(created.made));
+        Ok((text, json!({"file": created.file, "stores": created.made})))
     })
 }

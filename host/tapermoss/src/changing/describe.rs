@@ -2,11 +2,14 @@
 
 use super::{Changing, FileArguments};
 use crate::fields::NAME_AT;
+use crate::image::some;
+use crate::names;
 use crate::problem::Problem;
+use crate::told::Told;
 use clap::Args;
 use perq::raw::{self, REFUSED};
 use perq::{Refusal, DESCRIPTION};
-use std::fs;
+use serde_json::json;
 use std::path::PathBuf;
 
 pub const EXAMPLES: &str = "\
@@ -27,8 +30,8 @@ pub struct Arguments {
     /// The file's new name
     #[arg(long, value_parser = name, required_unless_present = "bytes", conflicts_with = "bytes")]
     name: Option<String>,
-    /// Where the new description is
-    #[arg(long, value_name = "PATH")]
+    /// Where the new description is; - is standard input
+    #[arg(long, value_name = "PATH", value_parser = names::path())]
     bytes: Option<PathBuf>,
 }
 
@@ -40,17 +43,18 @@ fn name(text: &str) -> Result<String, String> {
     Err(format!("a name is 1 to {LONGEST} printable ASCII characters"))
 }
 
-pub fn run(arguments: &Arguments) -> Result<(), Problem> {
+pub fn run(arguments: &Arguments) -> Result<Told, Problem> {
     let FileArguments { ref change, file } = arguments.file;
     let given = match &arguments.bytes {
-        Some(path) => Some(fs::read(path).map_err(|error| Problem::system("read", path, &error))?),
+        Some(path) => Some(some(path, DESCRIPTION)?),
         None => None,
     };
-    change.carry_out(".new", |image| {
+    change.carry_out(|image| {
         let name = arguments.name.as_deref().unwrap_or_default();
         let new = given.unwrap_or_else(|| renamed(image, file, name));
         let made = describe(image, file, &new)?;
-        Ok(format!("file {file} described: {}", image.stores(made)))
+        let text = format!("file {file} described: {}", image.stores(made));
+        Ok((text, json!({"file": file, "stores": made})))
     })
 }
 
@@ -71,10 +75,14 @@ fn describe(image: &mut Changing, f: u32, new: &[u8]) -> Result<u32, Problem> {
         return Ok(answer.made);
     }
     Err(match Refusal::from_number(answer.number, answer.block) {
-        Some(Refusal::Buffer) | None => Problem::Refused(format!(
-            "refused (3): a description has {DESCRIPTION} bytes, not {}",
-            new.len()
-        )),
+        Some(Refusal::Buffer) | None => {
+            let given = match new.len() {
+                less if less < DESCRIPTION => less.to_string(),
+                _ => "more".to_string(),
+            };
+            let told = format!("a description has {DESCRIPTION} bytes, not {given}");
+            Problem::refused(Refusal::Buffer, &told)
+        }
         Some(refusal) => image.asked().file(f).refused(refusal),
     })
 }

@@ -2,7 +2,9 @@
 
 use super::FileArguments;
 use crate::problem::Problem;
+use crate::told::Told;
 use clap::Args;
+use serde_json::json;
 
 pub const EXAMPLES: &str = "\
 The new image is IMAGE.new unless --output or --in-place is given.
@@ -17,11 +19,12 @@ pub struct Arguments {
     file: FileArguments,
 }
 
-pub fn run(arguments: &Arguments) -> Result<(), Problem> {
+pub fn run(arguments: &Arguments) -> Result<Told, Problem> {
     let FileArguments { ref change, file } = arguments.file;
-    change.carry_out(".new", |image| {
+    change.carry_out(|image| {
         let made = perq::destroy(&mut image.bytes, image.drive, image.s, file, image.left)
             .map_err(|refusal| image.asked().file(file).refused(refusal))?;
-        Ok(format!("file {file} destroyed: {}", image.stores(made)))
+        let text = format!("file {file} destroyed: {}", image.stores(made));
+        Ok((text, json!({"file": file, "stores": made})))
     })
 }

@@ -1,11 +1,14 @@
 //! `tapermoss fresh`: a new image with one partition and no files, to try things on.
 
 use crate::fields::{place, PARTITION_END, PARTITION_NAME, SUB_PARTITIONS};
-use crate::keep::{self, Existing};
+use crate::keep::{self, Existing, Like};
+use crate::names::{name_bytes, shown};
 use crate::problem::Problem;
-use crate::{check, drive, output};
+use crate::told::Told;
+use crate::{drive, rows};
 use clap::Args;
-use perq::{Drive, Refusal, ALL};
+use perq::{Drive, Refusal, ALL, RECORD};
+use serde_json::json;
 use std::path::PathBuf;
 
 pub const EXAMPLES: &str = "\
@@ -58,14 +61,15 @@ fn blocks(arguments: &Arguments) -> Result<(u32, u32, u32), Problem> {
     let by_default = n.saturating_sub(1).min(s.saturating_add(LARGEST - 1));
     let e = arguments.last.unwrap_or(by_default);
     if n > drive.blocks() {
-        return Err(Problem::Usage(format!(
-            "drive {} has only {} blocks",
-            drive.number(),
-            drive.blocks()
-        )));
+        let told = format!("drive {} has only {} blocks", drive.number(), drive.blocks());
+        return Err(Problem::usage(told));
+    }
+    if let Some(other) = drive::guess(RECORD * n as usize).filter(|&other| other != drive) {
+        let told = format!("an image of {n} blocks is taken for {}", drive::told(other));
+        return Err(Problem::usage(told));
     }
     if s == 0 || s >= e || e >= n || e - s >= LARGEST {
-        return Err(Problem::Usage(format!(
+        return Err(Problem::usage(format!(
             "blocks {s} to {e} of {n} are no partition: it starts at 1 or later and has 2 to {LARGEST} blocks"
         )));
     }
@@ -89,16 +93,14 @@ fn fresh(drive: Drive, n: u32, s: u32, e: u32, name: &str) -> Result<Vec<u8>, Re
     Ok(image)
 }
 
-pub fn run(arguments: &Arguments) -> Result<(), Problem> {
+pub fn run(arguments: &Arguments) -> Result<Told, Problem> {
     let (n, s, e) = blocks(arguments)?;
     let image = fresh(arguments.drive, n, s, e, &arguments.name)?;
     let summary = perq::check(&image, arguments.drive, s)?;
-    let existing = if arguments.force { Existing::Replaced } else { Existing::Kept };
-    keep::put(&arguments.image, &image, None, existing)?;
-    output::text(&format!(
-        "partition {} at block {s}: {}\nwritten to {}\n",
-        arguments.name,
-        check::told(summary),
-        arguments.image.display()
-    ))
+    let notes = keep::put(&arguments.image, &image, Like::New, Existing::under(arguments.force))?;
+    let (name, written) = (&arguments.name, shown(&arguments.image));
+    let text =
+        format!("partition {name} at block {s}: {}\nwritten to {written}\n", rows::told(summary));
+    let fields = json!({"drive": arguments.drive.number(), "blocks": n, "first": s, "last": e, "name": name, "written": written, "written_bytes": name_bytes(&arguments.image)});
+    Ok(Told { aside: notes, ..Told::done(text, fields) })
 }

@@ -9,13 +9,17 @@ pub mod repair;
 pub mod write;
 
 use crate::asked::Asked;
-use crate::image::{copy, the_drive, the_partition, PartitionArguments};
-use crate::keep::{self, Existing};
-use crate::output;
+use crate::drive::{counted, the_drive};
+use crate::image::{the_partition, PartitionArguments};
+use crate::keep::{self, Existing, Like};
+use crate::lock::locked;
+use crate::mend::real;
+use crate::names::{name_bytes, shown};
 use crate::problem::Problem;
+use crate::told::Told;
 use clap::Args;
 use perq::{Drive, ALL};
-use std::fs;
+use serde_json::{json, Value};
 use std::path::{Path, PathBuf};
 
 /// Where a changing command puts its image, and how far it goes.
@@ -23,18 +27,33 @@ use std::path::{Path, PathBuf};
 pub struct ChangeArguments {
     #[command(flatten)]
     place: PartitionArguments,
+    #[command(flatten)]
+    target: TargetArguments,
+    /// Replace a file that has the new image's name already
+    #[arg(long)]
+    force: bool,
+}
+
+/// Where a new image goes.
+#[derive(Args)]
+pub struct TargetArguments {
     /// Write the new image to PATH, not beside the old one
     #[arg(long, value_name = "PATH", conflicts_with = "in_place")]
     output: Option<PathBuf>,
     /// Let the new image take the place of the old one, in one step
     #[arg(long)]
     in_place: bool,
-    /// Replace a file that has the new image's name already
-    #[arg(long)]
-    force: bool,
     /// Make only the first N stores, as a machine that fails half way would
     #[arg(long, value_name = "N")]
     limit: Option<u32>,
+}
+
+impl TargetArguments {
+    /// The new image's name; none if it takes the place of the old one.
+    fn path(&self, image: &Path, ending: &str) -> Option<PathBuf> {
+        let beside = || keep::beside(image, ending);
+        (!self.in_place).then(|| self.output.clone().unwrap_or_else(beside))
+    }
 }
 
 /// A file of a partition on the command line of a changing command.
@@ -57,7 +76,7 @@ pub struct Changing {
 }
 
 impl Changing {
-    pub fn asked(&self) -> Asked {
+    pub fn asked(&self) -> Asked<'_> {
         Asked::of(&self.bytes, self.drive, self.s)
     }
 
@@ -70,50 +89,33 @@ impl Changing {
 }
 
 impl ChangeArguments {
-    /// The new image's name, and what becomes of a file that has it. In place it is the name behind all links.
-    fn target(&self, ending: &str) -> Result<(PathBuf, Existing), Problem> {
-        let image = &self.place.image.image;
-        if self.in_place {
-            let real = fs::canonicalize(image);
-            let real = real.map_err(|error| Problem::system("read", image, &error))?;
-            return Ok((real, Existing::Replaced));
-        }
-        let path = self.output.clone().unwrap_or_else(|| keep::beside(image, ending));
-        let existing = if self.force { Existing::Replaced } else { Existing::Kept };
-        keep::must_be_free(&path, existing, image)?;
-        Ok((path, existing))
-    }
-
-    fn open(&self) -> Result<Changing, Problem> {
-        let bytes = copy(&self.place.image.image)?;
-        let drive = the_drive(&bytes, self.place.image.drive.drive)?;
-        let s = the_partition(&bytes, drive, self.place.partition)?;
-        Ok(Changing { bytes, drive, s, left: self.limit.unwrap_or(ALL) })
-    }
-
-    /// Does the work on a copy of the image and writes the copy out; prints what the work tells. Work that is refused
-    /// writes nothing.
+    /// Does the work on a copy of the image and writes the copy out; says what the work tells, and its fields. Work that is
+    /// refused writes nothing.
     pub fn carry_out(
         &self,
-        ending: &str,
-        work: impl FnOnce(&mut Changing) -> Result<String, Problem>,
-    ) -> Result<(), Problem> {
-        let (path, existing) = self.target(ending)?;
-        let mut image = self.open()?;
-        let told = work(&mut image)?;
+        work: impl FnOnce(&mut Changing) -> Result<(String, Value), Problem>,
+    ) -> Result<Told, Problem> {
         let given = &self.place.image.image;
-        keep::put(&path, &image.bytes, permissions(given), existing)?;
-        let shown = if self.in_place { given } else { &path };
-        output::text(&format!("{told}\nwritten to {}\n", shown.display()))
+        let to = self.target.path(given, ".new");
+        let existing = Existing::under(self.force || to.is_none());
+        if let Some(to) = &to {
+            keep::must_be_free(to, existing, given)?;
+        }
+        let original = locked(given, to.is_none())?;
+        let drive = the_drive(&original.bytes, self.place.image.drive)?;
+        let s = the_partition(&original.bytes, drive, self.place.partition)?;
+        let left = self.target.limit.unwrap_or(ALL);
+        let mut image = Changing { bytes: original.bytes.clone(), drive, s, left };
+        let (text, mut fields) = work(&mut image)?;
+        let (path, like) = match &to {
+            Some(to) => (to.clone(), Like::Mode(&original.metadata)),
+            None => (real(given)?, Like::Itself(&original.metadata)),
+        };
+        let notes = keep::put(&path, &image.bytes, like, existing)?;
+        let written = to.as_deref().unwrap_or(given);
+        fields["written"] = json!(shown(written));
+        fields["written_bytes"] = json!(name_bytes(written));
+        let told = Told::done(format!("{text}\nwritten to {}\n", shown(written)), fields);
+        Ok(Told { aside: notes, ..told })
     }
-}
-
-/// A number of things.
-fn counted(number: u32, thing: &str) -> String {
-    format!("{number} {thing}{}", if number == 1 { "" } else { "s" })
-}
-
-/// A new image may be read and written by whom the old one may.
-pub fn permissions(image: &Path) -> Option<fs::Permissions> {
-    fs::metadata(image).ok().map(|metadata| metadata.permissions())
 }

@@ -4,11 +4,14 @@ mod png;
 mod svg;
 
 use crate::image::{PartitionArguments, Reading};
-use crate::keep::{self, Existing};
+use crate::keep::{self, Existing, Like};
+use crate::names::{name_bytes, shown};
 use crate::problem::Problem;
-use crate::{output, volume};
+use crate::told::Told;
+use crate::volume;
 use clap::Args;
 use perq::{Drive, Refusal};
+use serde_json::{json, Value};
 use std::path::{Path, PathBuf};
 
 pub const EXAMPLES: &str = "\
@@ -104,17 +107,16 @@ fn picture(image: &[u8], drive: Drive, s: u32) -> Result<Picture, Refusal> {
     Ok(Picture { s, blocks, width: width.next_multiple_of(8) })
 }
 
-/// How many blocks there are of each sort, in a line.
-fn summary(picture: &Picture) -> String {
+/// How many blocks there are of each sort.
+fn counts(picture: &Picture) -> [(&'static str, usize); 5] {
     let count = |is: fn(&Block) -> bool| picture.blocks.iter().filter(|block| is(block)).count();
-    format!(
-        "files {}, data blocks {}, pointer blocks {}, malformed file blocks {}, owned by no file {}",
-        count(|block| matches!(block, Block::File { .. })),
-        count(|block| matches!(block, Block::Data { .. })),
-        count(|block| matches!(block, Block::Pointer { .. })),
-        count(|block| matches!(block, Block::Malformed)),
-        count(|block| matches!(block, Block::Free)),
-    )
+    [
+        ("files", count(|block| matches!(block, Block::File { .. }))),
+        ("data blocks", count(|block| matches!(block, Block::Data { .. }))),
+        ("pointer blocks", count(|block| matches!(block, Block::Pointer { .. }))),
+        ("malformed file blocks", count(|block| matches!(block, Block::Malformed))),
+        ("owned by no file", count(|block| matches!(block, Block::Free))),
+    ]
 }
 
 /// The picture in the form that the name's ending asks for.
@@ -122,26 +124,40 @@ fn drawn(path: &Path, picture: &Picture) -> Result<Vec<u8>, Problem> {
     match path.extension().and_then(|ending| ending.to_str()) {
         Some("svg") => Ok(svg::draw(picture).into_bytes()),
         Some("png") => Ok(png::draw(picture)),
-        _ => Err(Problem::Usage(format!("{} ends in neither .svg nor .png", path.display()))),
+        _ => Err(Problem::usage(format!("{} ends in neither .svg nor .png", shown(path)))),
     }
 }
 
-pub fn run(arguments: &Arguments) -> Result<(), Problem> {
+pub fn run(arguments: &Arguments) -> Result<Told, Problem> {
     let image_path = &arguments.place.image.image;
     let mut paths = arguments.output.clone();
     if paths.is_empty() {
         paths = [".svg", ".png"].map(|ending| keep::beside(image_path, ending)).to_vec();
     }
-    let existing = if arguments.force { Existing::Replaced } else { Existing::Kept };
+    let existing = Existing::under(arguments.force);
     paths.iter().try_for_each(|path| keep::must_be_free(path, existing, image_path))?;
     let image = Reading::open(&arguments.place)?;
     let picture = picture(&image.bytes, image.drive, image.s)
         .map_err(|refusal| image.asked().refused(refusal))?;
-    let mut told = format!("{}\n", summary(&picture));
     let drawings = paths.iter().map(|path| drawn(path, &picture)).collect::<Result<Vec<_>, _>>()?;
+    let mut notes = Vec::new();
     for (path, drawing) in paths.iter().zip(drawings) {
-        keep::put(path, &drawing, None, existing)?;
-        told += &format!("written to {}\n", path.display());
+        notes.extend(keep::put(path, &drawing, Like::New, existing)?);
     }
-    output::text(&told)
+    Ok(Told { aside: notes, ..told(&picture, &paths) })
+}
+
+fn told(picture: &Picture, paths: &[PathBuf]) -> Told {
+    let counts = counts(picture);
+    let summary: Vec<String> =
+        counts.iter().map(|(name, count)| format!("{name} {count}")).collect();
+    let written: Vec<String> = paths.iter().map(|path| shown(path)).collect();
+    let lines = written.iter().map(|path| format!("written to {path}\n"));
+    let text = format!("{}\n{}", summary.join(", "), lines.collect::<String>());
+    let bytes: Vec<String> = paths.iter().map(|path| name_bytes(path)).collect();
+    let mut fields = json!({"partition": picture.s, "written": written, "written_bytes": bytes});
+    for (name, count) in counts {
+        fields[name.replace(' ', "_")] = Value::from(count);
+    }
+    Told::done(text, fields)
 }

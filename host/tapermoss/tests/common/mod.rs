@@ -30,13 +30,28 @@ pub fn printed_bytes(arguments: &[&str]) -> Vec<u8> {
     output.stdout
 }
 
-/// Status 1, nothing on standard output, and this one sentence.
+/// What it prints when it ends with this status and has nothing to complain of.
+#[track_caller]
+pub fn printed_with(status: i32, arguments: &[&str]) -> String {
+    let output = tapermoss(arguments);
+    assert_eq!(output.status.code(), Some(status), "{arguments:?}: {output:?}");
+    assert!(output.stderr.is_empty(), "{arguments:?}: {output:?}");
+    String::from_utf8(output.stdout).expect("text")
+}
+
+/// Status 1, a refusal of the library: nothing on standard output, and this one sentence.
 #[track_caller]
 pub fn fails(arguments: &[&str], sentence: &str) {
+    fails_with(1, arguments, sentence);
+}
+
+/// This status, nothing on standard output, and this one sentence.
+#[track_caller]
+pub fn fails_with(status: i32, arguments: &[&str], sentence: &str) {
     let output = tapermoss(arguments);
     let told = String::from_utf8_lossy(&output.stderr);
     assert_eq!(told, format!("tapermoss: {sentence}\n"), "{arguments:?}");
-    assert_eq!(output.status.code(), Some(1), "{arguments:?}");
+    assert_eq!(output.status.code(), Some(status), "{arguments:?}");
     assert!(output.stdout.is_empty(), "{arguments:?}");
 }
 
@@ -142,4 +157,32 @@ pub fn full() -> Vec<u8> {
     let end = reference::lbn_to_lda(FLOPPY, 19).a;
     set_bytes(&mut image, 6, 120, &end.to_le_bytes());
     image
+}
+
+/// A folder with this image in it, `disk`.
+pub fn with(image: &[u8]) -> Folder {
+    let folder = Folder::new();
+    folder.put("disk", image);
+    folder
+}
+
+/// What a command says, FOLDER being the folder: exit status, standard output with single blanks, standard error.
+pub fn said(folder: &Folder, words: &str) -> (i32, String, String) {
+    let path = folder.as_ref().to_str().expect("text");
+    let words = words.replace("FOLDER", path);
+    let output = tapermoss(&words.split(' ').collect::<Vec<&str>>());
+    let text = |bytes: Vec<u8>| String::from_utf8_lossy(&bytes).replace(path, "FOLDER");
+    let single = |line: &str| line.split_whitespace().collect::<Vec<&str>>().join(" ") + "\n";
+    let out = text(output.stdout).lines().map(single).collect();
+    (output.status.code().expect("it ends by itself"), out, text(output.stderr))
+}
+
+/// How many records of two images are not the same.
+pub fn differing(one: &[u8], other: &[u8]) -> usize {
+    one.chunks(RECORD).zip(other.chunks(RECORD)).filter(|(one, other)| one != other).count()
+}
+
+/// The bytes of a name, as JSON has them.
+pub fn hex(bytes: &[u8]) -> String {
+    bytes.iter().map(|byte| format!("{byte:02x}")).collect()
 }
