@@ -2,6 +2,7 @@
 
 use crate::layout::Layout;
 use crate::problem::Problem;
+use crate::told::counted;
 use clap::Args;
 use perq::{Drive, RECORD};
 
@@ -69,9 +70,4 @@ fn unknown(image: &[u8]) -> Problem {
         "the image has {} blocks, as no drive has: name its drive with --drive; it has {found}",
         image.len() / RECORD
     ))
-}
-
-/// A number of things.
-pub fn counted(number: u32, thing: &str) -> String {
-    format!("{number} {thing}{}", if number == 1 { "" } else { "s" })
 }

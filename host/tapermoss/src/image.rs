@@ -5,7 +5,7 @@
 
 use crate::asked::{not_an_image, Asked};
 use crate::drive::{the_drive, DriveArguments};
-use crate::layout::Layout;
+use crate::layout::{self, Layout};
 use crate::names::{self, shown};
 use crate::outcome::Outcome;
 use crate::problem::Problem;
@@ -114,7 +114,7 @@ pub fn the_partition(image: &[u8], drive: Drive, named: Option<u32>) -> Result<u
     let blocks: Vec<u32> = layout.partitions().map(|place| place.s).collect();
     match blocks[..] {
         [s] => Ok(s),
-        [] => Err(layout.none()),
+        [] => Err(layout::none()),
         _ => Err(Problem::usage(format!(
             "the image has {} partitions, at blocks {}: name one with --partition",
             blocks.len(),

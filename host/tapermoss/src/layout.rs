@@ -142,11 +142,11 @@ impl Layout {
             _ => place,
         }
     }
+}
 
-    /// What there is to say of an image without any partition.
-    pub fn none(&self) -> Problem {
-        Problem::refused(Refusal::Partition, "no good partition starts at any block")
-    }
+/// What there is to say of an image without any partition.
+pub fn none() -> Problem {
+    Problem::refused(Refusal::Partition, "no good partition starts at any block")
 }
 
 /// The standings, once all places are known. A listed one goes before one that is not. Every block of an image may look like

@@ -1,10 +1,11 @@
 //! What a repair of one partition would do and what it does, in memory.
 
 use crate::asked::Asked;
-use crate::drive::{counted, told};
+use crate::drive::told;
 use crate::layout::{Layout, Place, Standing};
 use crate::outcome::Outcome;
 use crate::problem::Problem;
+use crate::told::counted;
 use crate::volume;
 use perq::{Drive, Refusal, Summary, ALL, RECORD};
 

@@ -1,11 +1,10 @@
 //! The partitions of an image with what came of each, as a text and as JSON: what `check`, `repair` and `batch` share.
 
-use crate::drive::counted;
-use crate::layout::{Layout, Place};
+use crate::layout::{self, Layout, Place};
 use crate::outcome::Outcome;
 use crate::problem::Problem;
 use crate::repairing::{self, Held};
-use crate::told::{joined, reported};
+use crate::told::{counted, joined, reported};
 use perq::{Drive, Refusal, Summary};
 use serde_json::{json, Value};
 
@@ -102,7 +101,7 @@ pub fn chosen(layout: &Layout, named: Option<u32>) -> Result<Vec<Place>, Problem
         None => layout.partitions().copied().collect(),
     };
     if places.is_empty() {
-        return Err(layout.none());
+        return Err(layout::none());
     }
     Ok(places)
 }

@@ -77,3 +77,8 @@ pub fn joined(mut object: Value, other: &Value) -> Value {
     }
     object
 }
+
+/// A number of things.
+pub fn counted(number: u32, thing: &str) -> String {
+    format!("{number} {thing}{}", if number == 1 { "" } else { "s" })
+}

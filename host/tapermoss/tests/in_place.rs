@@ -3,7 +3,7 @@
 
 mod common;
 
-use common::{printed, sample, tapermoss, tool, unsound, Folder, FLOPPY};
+use common::{printed, sample, tapermoss, told, tool, unsound, Folder, FLOPPY};
 use reference::inspect::files;
 use reference::sample::scattered;
 use std::fs::{self, File, FileTimes, Metadata, Permissions};
@@ -36,10 +36,6 @@ fn replacing<'a>(image: &'a str, bytes: &'a str) -> [Vec<&'a str>; 5] {
         vec!["destroy", image, "--file", "7", "--in-place"],
         vec!["repair", image, "--in-place", "--anyway"],
     ]
-}
-
-fn told(output: &Output) -> String {
-    String::from_utf8(output.stderr.clone()).expect("text")
 }
 
 fn set_mode(path: &Path, mode: u32) {

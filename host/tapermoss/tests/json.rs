@@ -3,11 +3,11 @@
 
 mod common;
 
-use common::{full, hex, malformed, sample, tool, unsound, Folder, FLOPPY};
+use common::{full, hex, malformed, pipe, sample, tool, unsound, Folder, FLOPPY};
 use reference::sample::scattered;
 use serde_json::{json, Value};
 use std::collections::BTreeSet;
-use std::ffi::{CString, OsStr};
+use std::ffi::OsStr;
 use std::fs;
 use std::os::unix::ffi::OsStrExt;
 use std::process::Stdio;
@@ -367,12 +367,6 @@ fn answered(line: &[&str]) -> (i32, Option<u64>) {
     (status, object["number"].as_u64())
 }
 
-fn pipe(path: &str) {
-    let name = CString::new(path).expect("no zero in it");
-    // SAFETY: the pointer is to a text that ends with a zero.
-    assert_eq!(unsafe { libc::mkfifo(name.as_ptr(), 0o644) }, 0);
-}
-
 #[test]
 fn check_repair_and_batch_have_the_same_statuses() {
     for Kind { name, check, repair } in KINDS {
@@ -380,7 +374,7 @@ fn check_repair_and_batch_have_the_same_statuses() {
         let alone = folder.text("bare");
         let image = format!("{alone}/{name}");
         match name {
-            "pipe" => pipe(&image),
+            "pipe" => pipe(image.as_ref()),
             _ => fs::rename(folder.path(name), &image).expect("a renaming"),
         }
         let (object, status) = object(&["check", &image, "--json"]);
@@ -401,7 +395,7 @@ fn a_batch_has_the_status_of_its_worst_image() {
     let mut statuses = Vec::new();
     for name in ["disk", "unsound", "malformed", "full", "odd", "pipe"] {
         match name {
-            "pipe" => pipe(&folder.text("images/pipe")),
+            "pipe" => pipe(&folder.path("images/pipe")),
             _ => fs::rename(folder.path(name), folder.path(&format!("images/{name}")))
                 .expect("a renaming"),
         }

@@ -4,7 +4,7 @@
 mod common;
 
 use common::{
-    fails, full, hex, malformed, printed, printed_bytes, sample, set_bytes, tapermoss, tool,
+    fails, full, hex, malformed, printed, printed_bytes, sample, set_bytes, tapermoss, told, tool,
     unsound, Folder, FLOPPY,
 };
 use reference::sample::{content, scattered};
@@ -18,10 +18,6 @@ use std::path::PathBuf;
 use std::process::{Output, Stdio};
 
 const ALL: u32 = u32::MAX;
-
-fn told(output: &Output) -> String {
-    String::from_utf8(output.stderr.clone()).expect("text")
-}
 
 // What a write cannot take.
 

@@ -3,13 +3,11 @@
 
 mod common;
 
-use common::{sample, tool, unsound, Folder};
+use common::{pipe, sample, told, tool, unsound, Folder};
 use reference::sample::scattered;
 use serde_json::Value;
-use std::ffi::CString;
 use std::fs::{self, File};
 use std::io;
-use std::os::unix::ffi::OsStrExt;
 use std::os::unix::net::UnixListener;
 use std::os::unix::process::{CommandExt, ExitStatusExt};
 use std::path::Path;
@@ -61,16 +59,6 @@ fn bounded(arguments: &[&str]) -> Output {
         sleep(Duration::from_millis(5));
     }
     run.wait_with_output().expect("it has ended")
-}
-
-fn told(output: &Output) -> String {
-    String::from_utf8(output.stderr.clone()).expect("text")
-}
-
-fn pipe(path: &Path) {
-    let name = CString::new(path.as_os_str().as_bytes()).expect("no zero in it");
-    // SAFETY: the pointer is to a text that ends with a zero.
-    assert_eq!(unsafe { libc::mkfifo(name.as_ptr(), 0o644) }, 0);
 }
 
 fn place(folder: &Folder) -> &str {

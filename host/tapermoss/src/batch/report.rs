@@ -1,13 +1,12 @@
 //! The report of a batch: a table or JSON, and the worst outcome.
 
 use super::Judged;
-use crate::drive::counted;
 use crate::mend::{Mended, Written};
 use crate::names::{name_bytes, shown};
 use crate::outcome::Outcome;
 use crate::problem::Problem;
 use crate::rows::{self, Row};
-use crate::told::{reported, Told};
+use crate::told::{counted, reported, Told};
 use serde_json::{json, Value};
 use std::path::Path;
 

@@ -9,14 +9,14 @@ pub mod repair;
 pub mod write;
 
 use crate::asked::Asked;
-use crate::drive::{counted, the_drive};
+use crate::drive::the_drive;
 use crate::image::{the_partition, PartitionArguments};
 use crate::keep::{self, Existing, Like};
 use crate::lock::locked;
 use crate::mend::real;
 use crate::names::{name_bytes, shown};
 use crate::problem::Problem;
-use crate::told::Told;
+use crate::told::{counted, Told};
 use clap::Args;
 use perq::{Drive, ALL};
 use serde_json::{json, Value};

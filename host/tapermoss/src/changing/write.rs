@@ -1,11 +1,10 @@
 //! `tapermoss write`: bytes into a file, block by block.
 
 use super::{Changing, FileArguments};
-use crate::drive::counted;
 use crate::image::some;
 use crate::names::{self, shown};
 use crate::problem::Problem;
-use crate::told::Told;
+use crate::told::{counted, Told};
 use crate::volume;
 use clap::Args;
 use indicatif::ProgressBar;

@@ -3,7 +3,9 @@
 
 use reference::image::{HEADER, RECORD};
 use reference::sample::scattered;
+use std::ffi::CString;
 use std::fs;
+use std::os::unix::ffi::OsStrExt;
 use std::path::{Path, PathBuf};
 use std::process::{Command, Output};
 use std::sync::atomic::{AtomicU32, Ordering};
@@ -62,6 +64,11 @@ pub fn misused(arguments: &[&str]) -> String {
     assert_eq!(output.status.code(), Some(2), "{arguments:?}: {output:?}");
     assert!(output.stdout.is_empty(), "{arguments:?}");
     String::from_utf8(output.stderr).expect("text")
+}
+
+/// What a run has said on standard error.
+pub fn told(output: &Output) -> String {
+    String::from_utf8(output.stderr.clone()).expect("text")
 }
 
 /// A folder that a test has for itself, and that goes when it ends.
@@ -185,4 +192,11 @@ pub fn differing(one: &[u8], other: &[u8]) -> usize {
 /// The bytes of a name, as JSON has them.
 pub fn hex(bytes: &[u8]) -> String {
     bytes.iter().map(|byte| format!("{byte:02x}")).collect()
+}
+
+/// Makes a named pipe.
+pub fn pipe(path: &Path) {
+    let name = CString::new(path.as_os_str().as_bytes()).expect("no zero in it");
+    // SAFETY: the pointer is to a text that ends with a zero.
+    assert_eq!(unsafe { libc::mkfifo(name.as_ptr(), 0o644) }, 0);
 }
