@@ -12,6 +12,7 @@ use crate::problem::Problem;
 use crate::repairing::{repair, Wish};
 use crate::rows::{chosen, Row};
 use perq::{Drive, ALL};
+use std::borrow::Cow;
 use std::fs;
 use std::path::{Path, PathBuf};
 
@@ -50,7 +51,7 @@ pub fn mend(path: &Path, request: &Request) -> Result<Mended, Problem> {
     let layout = Layout::of(&original.bytes, drive)
         .map_err(|refusal| Asked::of(&original.bytes, drive, 0).refused(refusal))?;
     let places = chosen(&layout, request.partition)?;
-    let mut image = original.bytes.clone();
+    let mut image = Cow::Borrowed(&original.bytes[..]);
     let mut left = request.limit.unwrap_or(ALL);
     let rows: Vec<Row> = places
         .iter()

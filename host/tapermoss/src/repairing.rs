@@ -8,6 +8,7 @@ use crate::problem::Problem;
 use crate::told::counted;
 use crate::volume;
 use perq::{Drive, Refusal, Summary, ALL, RECORD};
+use std::borrow::Cow;
 
 /// How a repair is asked for.
 #[derive(Clone, Copy)]
@@ -75,9 +76,9 @@ fn loss(image: &[u8], drive: Drive, s: u32, last: u32) -> Option<String> {
     }
 }
 
-/// Repairs a partition if it is not sound. `left` is how many stores may still be made.
+/// Repairs a partition if it is not sound; the image is copied only then. `left` is how many stores may still be made.
 pub fn repair(
-    image: &mut [u8],
+    image: &mut Cow<[u8]>,
     drive: Drive,
     place: &Place,
     wish: Wish,
@@ -96,7 +97,7 @@ pub fn repair(
         }
     }
     let before = image[place.bytes()].to_vec();
-    let made = perq::repair(image, drive, s, *left)
+    let made = perq::repair(image.to_mut(), drive, s, *left)
         .map_err(|refusal| Asked::of(image, drive, s).refused(refusal))?;
     *left -= made;
     let records = image[place.bytes()].chunks(RECORD).zip(before.chunks(RECORD));

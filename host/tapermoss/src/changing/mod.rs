@@ -20,6 +20,7 @@ use crate::told::{counted, Told};
 use clap::Args;
 use perq::{Drive, ALL};
 use serde_json::{json, Value};
+use std::mem;
 use std::path::{Path, PathBuf};
 
 /// Where a changing command puts its image, and how far it goes.
@@ -101,11 +102,11 @@ impl ChangeArguments {
         if let Some(to) = &to {
             keep::must_be_free(to, existing, given)?;
         }
-        let original = locked(given, to.is_none())?;
+        let mut original = locked(given, to.is_none())?;
         let drive = the_drive(&original.bytes, self.place.image.drive)?;
         let s = the_partition(&original.bytes, drive, self.place.partition)?;
         let left = self.target.limit.unwrap_or(ALL);
-        let mut image = Changing { bytes: original.bytes.clone(), drive, s, left };
+        let mut image = Changing { bytes: mem::take(&mut original.bytes), drive, s, left };
         let (text, mut fields) = work(&mut image)?;
         let (path, like) = match &to {
             Some(to) => (to.clone(), Like::Mode(&original.metadata)),
