@@ -43,6 +43,7 @@ ifneq ($(findstring changing,$(FEATURES)),)
 	@cd host && cargo build --offline --quiet --release -p trials --bin batch_data --no-default-features --features "$(FEATURES)"
 	@tools/reference build/host/release/tapermoss build/host/release/batch_data build/reference
 endif
+	@printf '\nThe tool is build/host/release/tapermoss.\n'
 
 # The shared object that host/python/tapermoss.py loads.
 python: library build/libperq.so

@@ -140,8 +140,18 @@ impl Building {
     #[track_caller]
     fn ends(mut self) -> (Option<i32>, String) {
         assert_eq!(self.text(), None);
-        let output = self.child.wait_with_output().expect("it ends");
-        (output.status.code(), String::from_utf8(output.stdout).expect("text"))
+        let mut printed = String::new();
+        let mut out = self.child.stdout.take().expect("a pipe");
+        out.read_to_string(&mut printed).expect("text");
+        (self.child.wait().expect("it ends").code(), printed)
+    }
+}
+
+impl Drop for Building {
+    fn drop(&mut self) {
+        // A test that has failed leaves nothing running; what has ended cannot be killed, which is as good.
+        let _ = self.child.kill();
+        let _ = self.child.wait();
     }
 }
 
