@@ -71,11 +71,16 @@ pub fn is_taken(path: &Path) -> bool {
     fs::symlink_metadata(path).is_ok()
 }
 
+/// Whether force replaces what has a name: anything but a folder.
+pub fn is_replaceable(path: &Path) -> bool {
+    !fs::symlink_metadata(path).is_ok_and(|metadata| metadata.is_dir())
+}
+
 /// What is said of a name that is taken.
 pub fn taken(path: &Path) -> Problem {
-    let told = match fs::symlink_metadata(path) {
-        Ok(metadata) if metadata.is_dir() => format!("{} is there already, a folder", shown(path)),
-        _ => format!("{} is there already; --force replaces it", shown(path)),
+    let told = match is_replaceable(path) {
+        true => format!("{} is there already; --force replaces it", shown(path)),
+        false => format!("{} is there already, a folder", shown(path)),
     };
     Problem::new(Outcome::AnotherFile, told)
 }

@@ -108,11 +108,12 @@ impl Mended {
         force: bool,
     ) -> Result<(), Problem> {
         let like = Like::Mode(&original.metadata);
-        let there = read(to).unwrap_or_default();
+        let there = read(to);
         let is_whole =
             self.rows.iter().all(|row| row.outcome() != Outcome::Refused || !row.is_worked());
-        match self.held(&original.bytes, &there) {
-            Some(held) if is_whole => {
+        let held = there.as_ref().ok().and_then(|there| self.held(&original.bytes, there));
+        match (held, there) {
+            (Some(held), Ok(there)) if is_whole => {
                 let sum = self.sum(&there, image);
                 if sum == there {
                     self.written = Written::Earlier(to.to_path_buf());
@@ -122,9 +123,9 @@ impl Mended {
                 self.put(to, &sum, like, Existing::Replaced)
             }
             _ if force => self.put(to, image, like, Existing::Replaced),
-            Some(_) => Err(keep::taken(to)),
-            None => {
-                self.is_taken(to);
+            (Some(_), _) => Err(keep::taken(to)),
+            (None, there) => {
+                self.is_taken(to, there.err());
                 Ok(())
             }
         }
@@ -178,12 +179,17 @@ impl Mended {
         (image[place.bytes()] == *there).then_some(place.s)
     }
 
-    /// The name is another file's: what was repaired is written nowhere, so no partition is.
-    fn is_taken(&mut self, to: &Path) {
-        let told = format!(
-            "there is another file: {} is not what repair makes of this image; both are kept, and --force replaces it",
-            shown(to)
-        );
+    /// The name is another file's, or that of one which cannot be read and so not be compared: what was repaired is written
+    /// nowhere, so no partition is.
+    fn is_taken(&mut self, to: &Path, unread: Option<Problem>) {
+        let why = match unread {
+            Some(problem) if problem.outcome == Outcome::Unreadable => {
+                format!(", and it is not compared ({})", problem.sentence)
+            }
+            _ => format!(": {} is not what repair makes of this image", shown(to)),
+        };
+        let force = if keep::is_replaceable(to) { ", and --force replaces it" } else { "" };
+        let told = format!("there is another file{why}; both are kept{force}");
         for row in self.rows.iter_mut().filter(|row| row.is_worked()) {
             row.result = Err(Problem::new(Outcome::AnotherFile, told.clone()));
         }

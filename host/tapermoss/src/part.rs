@@ -80,7 +80,7 @@ impl Part {
                 Err(error) if error.kind() == ErrorKind::AlreadyExists => {}
                 opened => {
                     let file = opened?;
-                    // Where there are no locks, a file that is being written is named as one that was left.
+                    // Where there are no locks, one that was left cannot be told from this, and is not named.
                     let _ = try_lock(&file);
                     return Ok((Part(part), file));
                 }

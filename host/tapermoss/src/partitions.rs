@@ -54,6 +54,7 @@ fn as_json(found: &Found) -> Value {
         object["blocks"] = json!(last - place.s + 1);
         object["name"] = json!(fields::escaped(name));
         object["name_bytes"] = json!(hex(name));
+        object["doubt"] = json!(place.doubt());
         object
     };
     json!({

@@ -41,7 +41,7 @@ the table lists block 300, at which no good partition starts
         found["partitions"][0],
         json!({
             "first": 6, "last": 431, "blocks": 426, "listed": true, "shares_with": null,
-            "name": "USER\\x01", "name_bytes": "5553455201",
+            "name": "USER\\x01", "name_bytes": "5553455201", "doubt": null,
         })
     );
 }

@@ -3,11 +3,12 @@
 
 mod common;
 
-use common::{differing, said, sample, set_bytes, set_word, unsound, with, Folder};
+use common::{differing, pipe, said, sample, set_bytes, set_word, unsound, with, Folder};
 use reference::image::RECORD;
 use reference::sample::{blank, scattered};
 use serde_json::{json, Value};
 use std::fs;
+use std::os::unix::fs::symlink;
 use std::time::{Duration, SystemTime};
 
 const BLOCKS: u32 = 24_210;
@@ -140,6 +141,44 @@ fn another_file_is_kept_and_has_its_own_status() {
             assert!(folder.read("disk") == disk(), "{name}: {words}");
         }
         assert_eq!(folder.names(), ["disk", "disk.repaired"]);
+    }
+}
+
+/// Puts something there that cannot be read; answers why not.
+fn put_unreadable(folder: &Folder, sort: &str) -> &'static str {
+    let path = folder.path("disk.repaired");
+    match sort {
+        "folder" => fs::create_dir(path).expect("a folder"),
+        "pipe" => pipe(&path),
+        "loop" => symlink("disk.repaired", path).expect("a link"),
+        _ => symlink("nowhere", path).expect("a link"),
+    }
+    match sort {
+        "folder" => "it is a folder, and an image is a regular file",
+        "pipe" => "it is a pipe, and an image is a regular file",
+        "loop" => "Too many levels of symbolic links (os error 40)",
+        _ => "No such file or directory (os error 2)",
+    }
+}
+
+#[test]
+fn what_cannot_be_read_is_not_said_to_be_another_repair() {
+    for words in REPAIRS {
+        for sort in ["folder", "pipe", "loop", "link"] {
+            let folder = with(&unsound());
+            let why = put_unreadable(&folder, sort);
+            let (status, out, err) = said(&folder, words);
+            let told = format!(
+                "there is another file, and it is not compared (cannot read FOLDER/disk.repaired: {why}); both are kept"
+            );
+            let all = out + &err;
+            assert!(all.contains(&told) && !all.contains("repair makes"), "{words} {sort}: {all}");
+            assert_eq!(status, 6, "{words} {sort}");
+            let promised = all.contains("both are kept, and --force replaces it");
+            let (forced, ..) = said(&folder, &format!("{words} --force"));
+            assert_eq!(promised, forced == 3, "{words} {sort}: {all}");
+            assert_eq!(promised, sort != "folder");
+        }
     }
 }
 

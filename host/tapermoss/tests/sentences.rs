@@ -259,35 +259,6 @@ fn bytes_to_write_come_from_standard_input_too() {
 }
 
 #[test]
-fn a_folder_is_said_to_be_one() {
-    let folder = Folder::new();
-    let image = folder.put("disk", &sample());
-    fs::create_dir(folder.path("inner")).expect("a folder");
-    let inner = folder.text("inner");
-    let commands: [&[&str]; 11] = [
-        &["partitions"],
-        &["check"],
-        &["files"],
-        &["cat", "--file", "7"],
-        &["show", "--file", "7", "--block", "0"],
-        &["map"],
-        &["repair"],
-        &["create"],
-        &["create", "--in-place"],
-        &["destroy", "--file", "7"],
-        &["show", "--file", "7", "--block", "0", "--repaired", &image, "--original"],
-    ];
-    for command in commands {
-        let output = tapermoss(&[command, &[&inner]].concat());
-        let sentence = format!(
-            "tapermoss: cannot read {inner}: it is a folder, and an image is a regular file\n"
-        );
-        assert_eq!((told(&output), output.status.code()), (sentence, Some(5)), "{command:?}");
-    }
-    assert_eq!(folder.names(), ["disk", "inner"]);
-}
-
-#[test]
 fn force_is_said_to_replace_only_what_it_replaces() {
     let folder = Folder::new();
     let image = folder.put("disk", &sample());

@@ -96,24 +96,29 @@ fn a_batch_over_a_pipe_and_a_socket_ends_and_reads_the_images() {
 }
 
 #[test]
-fn a_pipe_hangs_no_command_that_reads_an_image() {
+fn a_pipe_or_a_folder_is_said_to_be_one_and_hangs_no_command() {
     let folder = Folder::new();
     let image = folder.put("disk", &sample());
-    let path = folder.text("pipe");
     pipe(&folder.path("pipe"));
-    let pairs = [[image.as_str(), path.as_str()], [path.as_str(), image.as_str()]];
-    let shows = pairs.map(|[original, repaired]| {
-        vec!["show", "--original", original, "--repaired", repaired, "--file", "7", "--block", "0"]
-    });
-    let singles = READING.map(|command| [command, &[path.as_str()]].concat());
-    for arguments in singles.into_iter().chain(shows) {
-        let output = bounded(&arguments);
-        let sentence = format!(
-            "tapermoss: cannot read {path}: it is a pipe, and an image is a regular file\n"
+    fs::create_dir(folder.path("folder")).expect("a folder");
+    for name in ["pipe", "folder"] {
+        let path = folder.text(name);
+        let told_to_be = format!(
+            "tapermoss: cannot read {path}: it is a {name}, and an image is a regular file\n"
         );
-        assert_eq!((told(&output), output.status.code()), (sentence, Some(5)), "{arguments:?}");
+        let pair = |original, repaired| {
+            let pair = ["show", "--original", original, "--repaired", repaired];
+            [&pair[..], &["--file", "7", "--block", "0"]].concat()
+        };
+        let shows = [pair(image.as_str(), path.as_str()), pair(path.as_str(), image.as_str())];
+        let singles = READING.map(|command| [command, &[path.as_str()]].concat());
+        for arguments in singles.into_iter().chain(shows) {
+            let output = bounded(&arguments);
+            let found = (told(&output), output.status.code());
+            assert_eq!(found, (told_to_be.clone(), Some(5)), "{arguments:?}");
+        }
     }
-    assert_eq!(folder.names(), ["disk", "pipe"]);
+    assert_eq!(folder.names(), ["disk", "folder", "pipe"]);
 }
 
 #[test]
