@@ -197,13 +197,12 @@ fn a_repair_that_would_lose_files_says_so_and_is_not_made() {
         for more in ["", " --in-place", &format!(" --partition {s}")] {
             let (status, out, err) = said(&folder, &format!("repair FOLDER/disk{drive}{more}"));
             assert_eq!((status, out.as_str()), (4, ""), "{more}");
-            let told = format!("tapermoss: the partition at block {s}: {doubt}");
-            assert!(err.starts_with(&told) && err.contains("--force"), "{more}: {err}");
+            assert_eq!(err, format!("tapermoss: the partition at block {s}: {doubt}\n"), "{more}");
         }
         let (status, out, _) = said(&folder, &format!("batch FOLDER{drive}"));
-        let told = format!("\ndisk set aside the partition at block {s}: {doubt}");
+        let told = format!("\ndisk set aside the partition at block {s}: {doubt}\n");
         assert_eq!(status, 4, "{out}");
-        assert!(out.contains(&told) && out.contains("--force"), "{out}");
+        assert!(out.contains(&told), "{out}");
         assert_eq!(folder.names(), ["disk"]);
         assert!(folder.read("disk") == image);
     }
@@ -224,29 +223,13 @@ fn json_tells_of_a_repair_that_would_lose_files() {
 }
 
 #[test]
-fn no_sentence_goes_on_after_its_question() {
-    let folder = with(&disk());
-    let (_, _, err) = said(&folder, "repair FOLDER/disk --drive 1 --force-drive");
-    assert!(!err.contains("?;"), "{err}");
-}
-
-#[test]
 fn check_says_so_too_and_promises_no_repair() {
     for (image, drive, _, s, doubt) in risky() {
         let (status, out, err) = said(&with(&image), &format!("check FOLDER/disk{drive}"));
         assert_eq!((status, out.as_str()), (1, ""));
         let told =
-            format!("tapermoss: refused (5): the partition at block {s} is not sound; {doubt}");
-        assert!(err.starts_with(&told), "{err}");
-        assert!(!err.contains("repair mends it"), "{err}");
-    }
-}
-
-#[test]
-fn check_says_that_such_a_repair_wants_force() {
-    for (image, drive, ..) in risky() {
-        let (_, _, err) = said(&with(&image), &format!("check FOLDER/disk{drive}"));
-        assert!(err.contains("--force"), "{err}");
+            format!("tapermoss: refused (5): the partition at block {s} is not sound; {doubt}\n");
+        assert_eq!(err, told);
     }
 }
 

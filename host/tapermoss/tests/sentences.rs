@@ -133,23 +133,19 @@ fn repair_is_said_to_mend_only_what_it_mends() {
 }
 
 #[test]
-fn what_is_said_to_be_left_alone_is_left_alone() {
-    let folder = Folder::new();
-    let image = folder.put("disk", &inside());
-    let lines: [&[&str]; 2] = [
-        &["repair", &image, "--partition", "300", "--force", "--output"],
-        &["repair", &image, "--partition", "6", "--anyway", "--output"],
-    ];
-    let mut untrue = Vec::new();
-    for (line, name) in lines.into_iter().zip(["three", "six"]) {
-        let output = tapermoss(&[line, &[&folder.text(name)]].concat());
-        assert_eq!(output.status.code(), Some(3), "{line:?}: {output:?}");
+fn what_is_not_taken_for_a_partition_is_not_said_to_stay_as_it_is() {
+    let mention = "block 300 looks like a partition, but shares blocks with that at block 6, which the table lists: it is not taken for one\n";
+    let lines: [(&[&str], &str); 2] =
+        [(&["--partition", "300", "--force"], ""), (&["--partition", "6", "--anyway"], mention)];
+    for (line, expected) in lines {
+        let folder = Folder::new();
+        let image = folder.put("disk", &inside());
+        let output = tapermoss(&[&["repair", &image], line].concat());
+        assert_eq!((told(&output).as_str(), output.status.code()), (expected, Some(3)), "{line:?}");
         let blocks = 528 * 300..528 * 311;
-        let same = folder.read(name)[blocks.clone()] == inside()[blocks];
-        let alone = told(&output).contains("block 300") && told(&output).contains("left alone");
-        untrue.extend((alone && !same).then_some((line, output)));
+        let same = folder.read("disk.repaired")[blocks.clone()] == inside()[blocks];
+        assert!(!same, "{line:?} changes its blocks");
     }
-    assert!(untrue.is_empty(), "its blocks are changed: {untrue:#?}");
 }
 
 #[test]
@@ -219,7 +215,6 @@ fn an_image_in_a_pipe_is_refused_as_no_regular_file() {
             let told =
                 "tapermoss: cannot read /dev/stdin: it is a pipe, and an image is a regular file\n";
             assert_eq!(sentence, told, "{arguments:?}");
-            assert!(!sentence.contains("empty"), "{sentence}");
         }
     }
     assert!(folder.names().is_empty());

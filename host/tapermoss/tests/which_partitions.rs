@@ -298,7 +298,7 @@ tapermoss: the partition at block 450: repair would change blocks of the partiti
 }
 
 #[test]
-fn one_that_was_named_is_not_said_to_be_left_alone() {
+fn one_that_was_named_is_not_said_to_be_none() {
     let folder = with(&with_an_unsound_one_inside());
     let (status, out, err) = said(&folder, "repair FOLDER/disk --partition 450 --force");
     assert_eq!(status, 3, "{out}");
@@ -325,7 +325,8 @@ fn one_that_only_reaches_into_a_listed_one_is_not_said_to_lie_in_it() {
         let (_, out, err) = said(&folder, words);
         let text = out + &err;
         assert!(text.contains("block 195 "), "{text}");
-        assert!(!text.contains("in the blocks of that at block 200"), "{text}");
+        let told = "looks like a partition, but shares blocks with that at block 200, which the table lists";
+        assert!(text.contains(told), "{text}");
     }
 }
 
