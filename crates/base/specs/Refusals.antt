@@ -1,7 +1,7 @@
--- Refusals: document 01's number of each, and the block that one names.
+-- Refusals: the number of each, document 01's up to 10, and the block that one names.
 use Prim.Native.Nat.{ℕ}
 use Rattle.base.specs.declared.Refusal.{Refusal}
-use Rattle.base.specs.declared.Refusal.the-variants.{BadImage, BadPartition, BadBuffer, Malformed, Unsound, NoCandidate, BadBlock, Full, NothingFree, NoAddress}
+use Rattle.base.specs.declared.Refusal.the-variants.{BadImage, BadPartition, BadBuffer, Malformed, Unsound, NoCandidate, BadBlock, Full, NothingFree, NoAddress, TooDeep}
 
 abbrev pub number : Refusal → ℕ
 number BadImage = 1
@@ -14,8 +14,9 @@ number BadBlock = 7
 number Full = 8
 number NothingFree = 9
 number NoAddress = 10
+number (TooDeep f) = 11
 
--- the LBN of a malformed candidate; any other refusal names no block
+-- the LBN of a malformed candidate, or of a directory of the tenth level; any other refusal names no block
 abbrev pub culprit : Refusal → ℕ
 culprit BadImage = 0
 culprit BadPartition = 0
@@ -27,3 +28,4 @@ culprit BadBlock = 0
 culprit Full = 0
 culprit NothingFree = 0
 culprit NoAddress = 0
+culprit (TooDeep f) = f

@@ -2,7 +2,8 @@
 ghost use mathlib.Core.Path.{_≡_};
 ghost use Rattle.base.specs.Refusals.{number, culprit};
 
-// Why a call is refused, in the order of document 01's numbers. A malformed candidate is named by its LBN.
+// Why a call is refused, in the order of its numbers: 1 to 10 are document 01's, 11 is request 1's. A malformed candidate and a
+// directory of the tenth level are named by their LBN.
 pub enum Refusal {
     BadImage,
     BadPartition,
@@ -14,9 +15,10 @@ pub enum Refusal {
     Full,
     NothingFree,
     NoAddress,
+    TooDeep(usize),
 }
 
-// Document 01's number of a refusal.
+// The number of a refusal.
 pub fn number(why: Refusal) -> u32
     ensures { λ r. ⌜ r ≡ number why ⌝ }
 {
@@ -31,6 +33,7 @@ pub fn number(why: Refusal) -> u32
         Refusal::Full => 8,
         Refusal::NothingFree => 9,
         Refusal::NoAddress => 10,
+        Refusal::TooDeep(_) => 11,
     }
 }
 
@@ -49,5 +52,6 @@ pub fn culprit(why: Refusal) -> usize
         Refusal::Full => 0,
         Refusal::NothingFree => 0,
         Refusal::NoAddress => 0,
+        Refusal::TooDeep(f) => f,
     }
 }

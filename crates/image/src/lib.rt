@@ -10,7 +10,7 @@ ghost use Rattle.image.specs.Image.{view, recOf};
 ghost use Rattle.image.specs.Stores.{bytesOf, over};
 ghost use Rattle.image.specs.Saves.{when, saves, words, withData, withText, Applied, Made, seven, Within};
 
-fn wide(x: u8) -> usize
+pub fn wide(x: u8) -> usize
     ensures { λ r. ⌜ (r ≡ x) × (r < 256) ⌝ }
 {
     x as usize

@@ -9,9 +9,9 @@ pub const REFUSED: u32 = 2;
 pub struct Answer {
     /// `DONE`, `ABSENT` or `REFUSED`.
     pub outcome: u32,
-    /// When refused: the number in document 01.
+    /// When refused: the number in document 01 or 02.
     pub number: u32,
-    /// When refused by 4: the LBN of the malformed candidate.
+    /// When refused by 4: the LBN of the malformed candidate; by 11: the directory of the tenth level.
     pub block: u32,
     /// Changing calls: how many stores were made.
     pub made: u32,
@@ -39,7 +39,8 @@ impl Answer {
     }
 }
 
-/// A number of document 01's table "Numbers a caller sees"; `block` is 0 except under 4.
+/// A number of document 01's table "Numbers a caller sees", or document 02's 11; `block` is 0 except
+/// under 4 and 11.
 #[derive(Clone, Copy, Debug, PartialEq, Eq)]
 pub struct Refusal {
     pub number: u32,
@@ -49,6 +50,11 @@ pub struct Refusal {
 impl Refusal {
     pub fn malformed(block: u32) -> Refusal {
         Refusal { number: 4, block }
+    }
+
+    /// The directory at this block is of the tenth level.
+    pub fn too_deep(block: u32) -> Refusal {
+        Refusal { number: 11, block }
     }
 
     /// Refuses with `number` unless `fine`.

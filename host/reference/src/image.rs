@@ -22,6 +22,7 @@ pub const PREVIOUS: usize = 6;
 pub const FREE_HEAD: usize = 0;
 pub const FREE_TAIL: usize = 2;
 pub const NUMBER_FREE: usize = 4;
+pub const ROOT_DIRECTORY: usize = 6;
 pub const PARTITION_START: usize = 118;
 pub const PARTITION_END: usize = 120;
 

@@ -1,22 +1,27 @@
 //! An independent implementation of the rules of document 01 (one partition on a lent volume image),
-//! written from that document and perq.h alone. Tests and benchmarks compare another library with it.
+//! and of request 1 of document 02 (directory names), written from these documents, perq.h and
+//! perq-requests.h alone. Tests and benchmarks compare another library with it.
 //!
-//! The calls of perq.h are here under the same names without `perq_`. The other public modules hold
-//! the parts they are made of, which tests may also use.
+//! The calls of the headers are here under the same names without `perq_`. The other public modules
+//! hold the parts they are made of, which tests may also use.
 #![forbid(unsafe_code)]
 
 pub mod address;
 pub mod answer;
 pub mod changing;
+pub mod directory;
 pub mod file;
 pub mod image;
 pub mod inspect;
 pub mod plan;
+pub mod random_tree;
 pub mod reading;
 pub mod record;
 pub mod repair;
 pub mod sample;
 pub mod sound;
+pub mod tree;
+pub mod tree_sample;
 
 mod allocation;
 mod append;
@@ -25,7 +30,9 @@ pub use address::{fileid_to_lbn, lbn_to_fileid, lbn_to_lda, lbn_to_pda, lda_to_l
 pub use answer::{Answer, ABSENT, DONE, REFUSED};
 pub use changing::{create, describe, destroy, write};
 pub use changing::{plan_create, plan_describe, plan_destroy, plan_write};
+pub use directory::look_up;
 pub use plan::Plan;
 pub use reading::{description, extract, next_file, read, show, show_pair};
 pub use repair::{plan_repair, repair};
 pub use sound::check;
+pub use tree::tree;

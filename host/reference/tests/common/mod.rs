@@ -62,3 +62,20 @@ pub fn set_pair(image: &mut [u8], b: u32, at: usize, value: u32) {
 pub fn blocks(plan: &Plan) -> Vec<u32> {
     plan.stores.iter().map(|store| store.0).collect()
 }
+
+/// A call done with these values.
+pub fn done(a: u32, b: u32) -> Answer {
+    Answer {
+        a,
+        b,
+        ..Answer::default()
+    }
+}
+
+/// Refused by 11: a directory of the tenth level.
+pub fn deep(block: u32) -> Answer {
+    Answer {
+        block,
+        ..refused(11)
+    }
+}

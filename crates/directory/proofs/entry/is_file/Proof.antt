@@ -1,0 +1,21 @@
+use mathlib.Core.Path.{sym, _∙_}
+use Rattle.base.specs.Tests.{both}
+use Rattle.volume.specs.Files.{candidate, isFile}
+use Rattle.volume.specs.Reads.{candidate-in}
+use borrow.Author.Needs.{needs}
+use Rattle.directory.proofs.entry.is_file.Statement.{statement}
+use Rattle.directory.proofs.entry.is_file.Tie as tie
+
+well-formed-requires : tie.Need-well-formed-requires
+well-formed-requires c κs = (c .before .before .before .pre, candidate-in _ _ _ (sym (c .before .candidate .ensures) ∙ c .if1 .taken) .1)
+
+returns : tie.Need-returns
+unfolding isFile both
+returns c = rw (sym (c .before .before .candidate .ensures) ∙ c .before .if1 .taken, isFile, both) (c .well-formed .ensures)
+
+returns-2 : tie.Need-returns-2
+unfolding isFile both
+returns-2 c = rw (sym (c .before .candidate .ensures) ∙ c .if1 .left, isFile, both)
+
+pub is-file-spec : {M : Type 1} → statement M
+is-file-spec = tie.close (tie.spec (λ c κs. search needs) well-formed-requires returns returns-2)

@@ -1,0 +1,3 @@
+pub mod Directory
+pub mod Entries
+pub mod Paths
