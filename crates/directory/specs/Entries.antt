@@ -227,3 +227,14 @@ module _ (π : Partition) (l : List ℕ) (sel : Selection) (f j what t : ℕ) (h
       go : (x : Found) → targetOf π l (name π (view l) f (j / 16)) (j % 16) ≡ x → isFile π (view l) t ≡ true
       go (At y) q = let z = rw q at met-target in let i : y ≡ t = cc in rw (← i) (file-at π l _ y q)
       go Nothing q = let z = rw q at met-target in let i : _≡_ {A = ℕ} 2 1 = (let k : 2 ≡ what = cc in k ∙ w) in absurd (omega arith)
+
+  pub met-what : what ≤ 2
+  met-what = go (targetOf π l (name π (view l) f (j / 16)) (j % 16)) met-target
+    where
+      kind : (u : Bool) → pick u 1 0 ≤ 2
+      kind true = omega arith
+      kind false = omega arith
+
+      go : (x : Found) → metTarget π l x ≡ Taken what t → what ≤ 2
+      go (At y) q = let k : pick (isDirectory π l y) 1 0 ≡ what = cc in rw (← k) (kind (isDirectory π l y))
+      go Nothing q = let k : 2 ≡ what = cc in omega arith

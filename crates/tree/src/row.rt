@@ -1,0 +1,72 @@
+// A row of the tree, laid over the caller's bytes.
+ghost use mathlib.Core.Path.{_≡_};
+ghost use Prim.Native.Nat.{_+_, _*_, _/_, _%_, _≤_, _<_};
+ghost use lib.ListN.{length};
+ghost use Rattle.base.specs.Tests.{pick};
+ghost use Rattle.volume.specs.Files.{partitionOf};
+ghost use Rattle.inspect.specs.Parts.{Opened};
+ghost use Rattle.directory.specs.Directory.{nameLength, nameAt, placeOf, rowOf, lay};
+use directory::entry;
+use inspect::index;
+
+// The bytes of src over those of the buffer from `at` on.
+fn put_at(buf: &mut [u8], at: usize, src: &[u8])
+    requires { ⌜ at + length (now src) ≤ length (now buf) ⌝ }
+    ensures { λ _. ⌜ now (buf .exit) ≡ lay (now (buf .entry)) at (now (src .entry)) ⌝ }
+{
+    let end = at + src.len();
+    bytes::copy(src, &mut buf[at..end]);
+}
+
+// Row n.
+fn put_row(rows: &mut [u8], n: usize, t: usize, level: usize, what: usize, name: &[u8])
+    requires { ⌜ (32 * n + 32 ≤ length (now rows)) × (length (now name) ≤ 25) × (level < 256) × (what < 256) ⌝ }
+    ensures { λ _. ⌜ now (rows .exit) ≡ lay (now (rows .entry)) (32 * n) (rowOf t level what (now (name .entry))) ⌝ }
+{
+    let a = 32 * n;
+    let k = name.len();
+    let head = [
+        (t % 256) as u8,
+        (t / 256 % 256) as u8,
+        (t / 65536 % 256) as u8,
+        (t / 16777216 % 256) as u8,
+        level as u8,
+        what as u8,
+        k as u8,
+    ];
+    put_at(rows, a, &head);
+    put_at(rows, a + 7, name);
+    let z = [0u8; 25];
+    let m = 25 - k;
+    put_at(rows, a + 7 + k, &z[0..m]);
+}
+
+// The row of entry j of f, which has p pointer blocks and k blocks, as row n; nothing unless `on`.
+pub fn entry_row(
+    rows: &mut [u8],
+    img: &[u8],
+    drive: usize,
+    s: usize,
+    e: usize,
+    f: usize,
+    p: usize,
+    k: usize,
+    j: usize,
+    level: usize,
+    what: usize,
+    t: usize,
+    n: usize,
+    on: bool,
+)
+    requires { ⌜ (Opened (partitionOf drive s e) (now img) f p k) × (j < 16 * k) × (nameLength (now img) (placeOf (partitionOf drive s e) (now img) f j) ≤ 25) × (level < 256) × (what < 256) × (32 * n + 32 ≤ length (now rows)) ⌝ }
+    ensures { λ _. ⌜ now (rows .exit) ≡ pick on (lay (now (rows .entry)) (32 * n) (rowOf t level what (nameAt (now (img .entry)) (placeOf (partitionOf drive s e) (now (img .entry)) f j)))) (now (rows .entry)) ⌝ }
+{
+    if !on {
+        return;
+    }
+    let b = index::name(img, drive, s, e, f, p, k, j / 16);
+    let at = 528 * b + 16 + entry::ENTRY * (j % 16);
+    let from = at + entry::NAME;
+    let end = from + image::wide(img[at + entry::LENGTH]);
+    put_row(rows, n, t, level, what, &img[from..end]);
+}

@@ -1,0 +1,69 @@
+// The walk of a tree: its remaining depth falls at each level.
+ghost use mathlib.Core.Path.{_≡_};
+ghost use mathlib.Core.Bool.{true};
+ghost use Prim.Native.Nat.{_+_, _*_, _-_, _≤_, _<_};
+ghost use lib.ListN.{length};
+ghost use Rattle.image.specs.Image.{view};
+ghost use Rattle.volume.specs.Files.{partitionOf, isFile};
+ghost use Rattle.volume.specs.Reads.{Lies};
+ghost use Rattle.directory.specs.Directory.{isRule, selected, tree, walked, lay};
+ghost use Rattle.tree.specs.Walks.{writes};
+use crate::row;
+use directory::entry;
+use directory::Met;
+use directory::Walk;
+use inspect::index;
+
+// Directory f and what lies below it with `left` levels left, n of `most` rows filled so far; the rows are written if `on`.
+pub fn walk(
+    rows: &mut [u8],
+    img: &[u8],
+    drive: usize,
+    s: usize,
+    e: usize,
+    rule: &[u8],
+    left: usize,
+    f: usize,
+    most: usize,
+    n: usize,
+    on: bool,
+) -> Walk
+    requires { ⌜ (Lies drive (now img) s e) × (isRule (now rule) ≡ true) × (isFile (partitionOf drive s e) (view (now img)) f ≡ true) × (left < 10) × (32 * most ≤ length (now rows)) × (most < 4294967296) ⌝ }
+    ensures { λ w. ⌜ (w ≡ walked most (tree (partitionOf drive s e) (now (img .entry)) (selected (now (rule .entry))) left f) n) × (now (rows .exit) ≡ lay (now (rows .entry)) (32 * n) (writes on (most - n) (tree (partitionOf drive s e) (now (img .entry)) (selected (now (rule .entry))) left f))) ⌝ }
+{
+    if left < 1 {
+        return Walk::Deep(f);
+    }
+    let below = left - 1;
+    let level = 10 - left;
+    let k = index::len(img, drive, s, e, f);
+    let p = index::ptrs_for(k);
+    let end = 16 * k;
+    let mut at = n;
+    for j in 0..end {
+        let x = entry::met(img, drive, s, e, rule, f, p, k, j);
+        match x {
+            Met::Skip => continue,
+            Met::Taken(what, t) => {
+                if most <= at {
+                    return Walk::Stopped(at);
+                }
+                row::entry_row(rows, img, drive, s, e, f, p, k, j, level, what, t, at, on);
+                at += 1;
+                if what != 1 {
+                    continue;
+                }
+                let y = walk(rows, img, drive, s, e, rule, below, t, most, at, on);
+                match y {
+                    Walk::Going(m) => {
+                        at = m;
+                        continue;
+                    }
+                    Walk::Stopped(m) => return Walk::Stopped(m),
+                    Walk::Deep(g) => return Walk::Deep(g),
+                }
+            }
+        }
+    }
+    Walk::Going(at)
+}
