@@ -4,14 +4,16 @@ use mathlib.Core.Bool.{Bool, true, false}
 use mathlib.Core.List.{List}
 use Prim.Native.Nat.{ℕ, zero, suc, _+_, _-_, _*_, _/_, _%_, _≤_, _<_}
 use native.Mathlib.Omega.{arith}
-use lib.Dec.{ltb}
+use lib.Dec.{ltb, eqb}
 use lib.ListN.{length, getD, take, drop}
 use borrow.Author.Tests.{eq-eqb, ne-eqb, lt-ltb, le-ltb}
 use Rattle.base.specs.Tests.{pick, both}
+use Rattle.base.specs.Laws.{both-left}
 use Rattle.image.specs.View.{pair}
 use Rattle.image.specs.Image.{view}
 use Rattle.volume.specs.Files.{Partition, name, len, isFile}
 use Rattle.volume.specs.Answers.{lowest}
+use Rattle.volume.specs.Reads.{candidate-in}
 use Rattle.volume.specs.Steps.{Searching, search-starts-as, search-hit, search-next}
 use Rattle.volume.specs.declared.Found.{Found}
 use Rattle.volume.specs.declared.Found.the-variants.{At, Nothing}
@@ -179,3 +181,63 @@ module _ {π : Partition} {l : List ℕ} {sel : Selection} {path : List ℕ} {i 
       pub look-next : {v : Bool} → q < length path → v ≡ isDirectory π l t → v ≡ true → Looking π l sel path (i + 1) (q + 1) t w
       look-next r a b =
           record { left = onto t true true c (lt-ltb q (length path) r) (sym a ∙ b); file = entered-file π l sel _ f t (sym y ∙ c); low = omega arith; few = omega arith }
+
+-- ---- what look up names lies in the partition
+
+abbrev pub LookedIn : ℕ → Looked → Type 0
+LookedIn e (File t) = t ≤ e
+LookedIn e Dangling = Unit {0}
+LookedIn e Absent = Unit {0}
+LookedIn e (Beyond f) = f ≤ e
+
+pub file-in : (π : Partition) (l : List ℕ) (f : ℕ) → isFile π (view l) f ≡ true → f ≤ π .e
+unfolding isFile
+file-in π l f h = candidate-in π (view l) f (both-left _ _ h) .1
+
+module _ (π : Partition) (l : List ℕ) (sel : Selection) (path : List ℕ) where
+  onward-in : (k : ℕ → Looked) (more : Bool) (x : Looked) → ((t : ℕ) → isFile π (view l) t ≡ true → LookedIn (π .e) (k t)) → ((t : ℕ) → x ≡ File t → isFile π (view l) t ≡ true)
+      → LookedIn (π .e) x → LookedIn (π .e) (onward π l k more x)
+  onward-in k more Dangling h g i = go more
+    where
+      go : (u : Bool) → LookedIn (π .e) (pick u Absent Dangling)
+      go true = tt
+      go false = tt
+  onward-in k more Absent h g i = tt
+  onward-in k more (Beyond f) h g i = i
+  onward-in k more (File t) h g i = go more (isDirectory π l t)
+    where
+      go : (u v : Bool) → LookedIn (π .e) (follow k t u v)
+      go true true = h t (g t refl)
+      go true false = tt
+      go false v = i
+
+  entered-in : (part : List ℕ) (f : ℕ) (x : Looked) → entered π l sel part f ≡ x → LookedIn (π .e) x
+  unfolding entered
+  entered-in part f (File t) q = file-in π l t (entered-file π l sel part f t q)
+  entered-in part f Dangling q = tt
+  entered-in part f Absent q = tt
+  entered-in part f (Beyond g) q = go (find π l sel part f) q
+    where
+      at : (y : Found) → asLooked y ≡ Beyond g → g ≤ π .e
+      at (At t) z = let i : _≡_ {A = ℕ} 0 1 = cc in absurd (omega arith)
+      at Nothing z = let i : _≡_ {A = ℕ} 0 1 = cc in absurd (omega arith)
+
+      go : (y : Found) → enteredAt π l sel f y ≡ Beyond g → g ≤ π .e
+      go (At j) z = at (targetOf π l (name π (view l) f (j / 16)) (j % 16)) z
+      go Nothing z = let i : _≡_ {A = ℕ} 0 1 = cc in absurd (omega arith)
+
+  pub look-in : (d p f : ℕ) → isFile π (view l) f ≡ true → LookedIn (π .e) (look π l sel d path p f)
+  unfolding look
+  look-in zero p f h = file-in π l f h
+  look-in (suc d) p f h =
+      let q = partEnd path p (length path - p) in
+      let part = take (q - p) (drop p path) in
+      onward-in (look π l sel d path (q + 1)) (ltb q (length path)) (entered π l sel part f) (λ t k. look-in d (q + 1) t k) (λ t z. entered-file π l sel part f t z) (entered-in part f (entered π l sel part f) refl)
+
+  pub lookFrom-in : (root : ℕ) → isFile π (view l) root ≡ true → LookedIn (π .e) (lookFrom π l sel root path)
+  unfolding lookFrom
+  lookFrom-in root h = go (eqb (length path) 0)
+    where
+      go : (u : Bool) → LookedIn (π .e) (pick u (File root) (look π l sel 9 path 0 root))
+      go true = file-in π l root h
+      go false = look-in 9 0 root h

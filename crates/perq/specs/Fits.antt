@@ -40,7 +40,7 @@ OutcomeFits (Done a b c) = (a < 4294967296) × (b < 4294967296) × (c < 42949672
 OutcomeFits Absent = Unit {0}
 OutcomeFits (Refused y) = culprit y < 4294967296
 
-pick-fits : (t : Bool) (x y : Outcome) → (t ≡ true → OutcomeFits x) → OutcomeFits y → OutcomeFits (pick t x y)
+pub pick-fits : (t : Bool) (x y : Outcome) → (t ≡ true → OutcomeFits x) → OutcomeFits y → OutcomeFits (pick t x y)
 pick-fits true x y h k = h refl
 pick-fits false x y h k = k
 
@@ -76,7 +76,7 @@ count-most (suc k) P = go (P k) (count-most k P)
     go false h = omega arith
 
 -- 1 and 2 name no block
-part-fits : (d : ℕ) (l : List ℕ) (s : ℕ) (k : ℕ → Outcome) → ((e : ℕ) → partition d l s ≡ part.Good e → OutcomeFits (k e)) → OutcomeFits (inPartition (partition d l s) k)
+pub part-fits : (d : ℕ) (l : List ℕ) (s : ℕ) (k : ℕ → Outcome) → ((e : ℕ) → partition d l s ≡ part.Good e → OutcomeFits (k e)) → OutcomeFits (inPartition (partition d l s) k)
 unfolding partition
 part-fits d l s k h = go (imageGood d (length l)) (partGood d (length l / 528) (view l) s) h
   where

@@ -1,3 +1,4 @@
 pub mod Flat
 pub mod Fits
+pub mod Named
 pub mod Unique

@@ -11,6 +11,7 @@ use drive::Converted;
 use volume::Outcome;
 
 mod changes; // changes.rt: the calls that change the image
+mod directories; // directories.rt: the calls that read directories
 mod reads; // reads.rt: the calls that change nothing
 
 // An answer as seven numbers: see include/perq.h.

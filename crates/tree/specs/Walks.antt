@@ -10,14 +10,13 @@ use lib.ListN.{length, take, drop, replicate, length-append, length-take, take-a
 use lib.Seq.{take-at, length-take-le, drop-drop, drop-append-add}
 use borrow.Author.Tests.{lt-ltb, le-ltb, eq-eqb, ne-eqb, eqb-true, ltb-true, ltb-false}
 use Rattle.base.specs.Tests.{pick}
-use Rattle.base.specs.Laws.{both-left}
 use Rattle.base.specs.declared.Refusal.the-variants.{TooDeep}
 use Rattle.image.specs.Image.{view}
 use Rattle.volume.specs.Files.{Partition, isFile, len}
-use Rattle.volume.specs.Reads.{candidate-in}
 use Rattle.volume.specs.declared.Outcome.the-variants.{Done, Refused}
 use Rattle.directory.specs.Directory.{Selection, nameLength, nameAt, placeOf, metAt, Item, row, tenth, rowOf, itemsOf, entries, tree, walked, fitting, lay, walkedAs}
 use Rattle.directory.specs.Entries.{met-short, met-is-file}
+use Rattle.directory.specs.Paths.{file-in}
 use Rattle.directory.specs.declared.Met.{Met}
 use Rattle.directory.specs.declared.Met.the-variants.{Skip, Taken}
 use Rattle.directory.specs.declared.Walk.{Walk}
@@ -89,8 +88,8 @@ module _ (π : Partition) (l : List ℕ) (sel : Selection) where
   entries-sized below level f j (suc c) h = sized-append (π .e) (itemsOf π l sel below level (placeOf π l f j) (metAt π l sel f j)) (entries π l sel below level f (j + 1) c) (items-sized below level f j h) (entries-sized below level f (j + 1) c h)
 
   pub tree-sized : (d f : ℕ) → isFile π (view l) f ≡ true → Sized (π .e) (tree π l sel d f)
-  unfolding tree isFile
-  tree-sized zero f h = (candidate-in π (view l) f (both-left _ _ h) .1, tt)
+  unfolding tree
+  tree-sized zero f h = (file-in π l f h, tt)
   tree-sized (suc d) f h = entries-sized (tree π l sel d) (9 - d) f 0 (16 * len π (view l) f) (λ t k. tree-sized d t k)
 
 -- ---- one list of items after another
@@ -121,48 +120,57 @@ pub fitting-full : (m n : ℕ) (is : List Item) → m ≤ n → fitting (m - n) 
 unfolding fitting
 fitting-full m n is h = let z : m - n ≡ zero = omega arith in rw (z, fitting)
 
--- a walk of xs that went on to i, or ended: what it leaves of xs and then ys
-pub record Went (m : ℕ) (xs ys : List Item) (n i : ℕ) : Type 0 where
-  pub on : walked m (xs ++ ys) n ≡ walked m ys i
-  pub bytes : fitting (m - n) (xs ++ ys) ≡ fitting (m - n) xs ++ fitting (m - i) ys
-  pub long : 32 * n + length (fitting (m - n) xs) ≡ 32 * i
+-- a walk that filled rows up to i has laid as many bytes
+abbrev pub Counts : ℕ → ℕ → List Item → Walk → Type 0
+Counts m n is (Going i) = 32 * n + length (fitting (m - n) is) ≡ 32 * i
+Counts m n is (Stopped i) = 32 * n + length (fitting (m - n) is) ≡ 32 * i
+Counts m n is (Deep f) = Unit {0}
 
-pub record Ended (m : ℕ) (xs ys : List Item) (n : ℕ) (w : Walk) : Type 0 where
-  pub on : walked m (xs ++ ys) n ≡ w
-  pub bytes : fitting (m - n) (xs ++ ys) ≡ fitting (m - n) xs
+counts-row : (m n : ℕ) (r : List ℕ) (is : List Item) (w : Walk) → n < m → length r ≡ 32 → Counts m (n + 1) is w → Counts m n (row r ∷ is) w
+counts-row m n r is (Going i) h q s = rw (fitting-row m n r is h, length-append) (omega arith)
+counts-row m n r is (Stopped i) h q s = rw (fitting-row m n r is h, length-append) (omega arith)
+counts-row m n r is (Deep f) h q s = tt
 
-abbrev Then : ℕ → List Item → List Item → ℕ → Walk → Type 0
-Then m xs ys n (Going i) = Went m xs ys n i
-Then m xs ys n (Stopped i) = Ended m xs ys n (Stopped i)
-Then m xs ys n (Deep f) = Ended m xs ys n (Deep f)
-
-then-row : (m : ℕ) (r : List ℕ) (xs ys : List Item) (n : ℕ) (w : Walk) → n < m → length r ≡ 32 → Then m xs ys (n + 1) w → Then m (row r ∷ xs) ys n w
-then-row m r xs ys n (Going i) h q s = record {
-  on = walked-row m n r (xs ++ ys) h ∙ s .on;
-  bytes = fitting-row m n r (xs ++ ys) h ∙ ap (λ (x : List ℕ). r ++ x) (s .bytes) ∙ sym (append-assoc r _ _) ∙ ap (λ (x : List ℕ). x ++ fitting (m - i) ys) (sym (fitting-row m n r xs h));
-  long = (let z = s .long in rw (fitting-row m n r xs h, length-append) (omega arith));
-}
-then-row m r xs ys n (Stopped i) h q s = record {
-  on = walked-row m n r (xs ++ ys) h ∙ s .on;
-  bytes = fitting-row m n r (xs ++ ys) h ∙ ap (λ (x : List ℕ). r ++ x) (s .bytes) ∙ sym (fitting-row m n r xs h);
-}
-then-row m r xs ys n (Deep f) h q s = record {
-  on = walked-row m n r (xs ++ ys) h ∙ s .on;
-  bytes = fitting-row m n r (xs ++ ys) h ∙ ap (λ (x : List ℕ). r ++ x) (s .bytes) ∙ sym (fitting-row m n r xs h);
-}
-
-pub walked-then : (m e : ℕ) (xs ys : List Item) (n : ℕ) → Sized e xs → Then m xs ys n (walked m xs n)
+pub counts : (m e : ℕ) (is : List Item) (n : ℕ) → Sized e is → Counts m n is (walked m is n)
 unfolding walked
-walked-then m e [] ys n s = record { on = refl; bytes = rw (fitting-none (m - n)); long = rw (fitting-none (m - n)) (omega arith) }
-walked-then m e (tenth f ∷ xs) ys n s = record { on = refl; bytes = fitting-tenth (m - n) f (xs ++ ys) ∙ sym (fitting-tenth (m - n) f xs) }
-walked-then m e (row r ∷ xs) ys n s = go (ltb n m) refl (walked-then m e xs ys (n + 1) (s .1))
+counts m e [] n s = rw (fitting-none (m - n)) (omega arith)
+counts m e (tenth f ∷ is) n s = tt
+counts m e (row r ∷ is) n s = go (ltb n m) refl (counts m e is (n + 1) (s .1))
+  where
+    go : (u : Bool) → ltb n m ≡ u → Counts m (n + 1) is (walked m is (n + 1)) → Counts m n (row r ∷ is) (walked m (row r ∷ is) n)
+    go true q k = let l = ltb-true n m q in subst (Counts m n (row r ∷ is)) (sym (walked-row m n r is l)) (counts-row m n r is (walked m is (n + 1)) l (s .0) k)
+    go false q k = let l = ltb-false n m q in subst (Counts m n (row r ∷ is)) (sym (walked-full m n r is l)) (rw (fitting-full m n (row r ∷ is) l) (omega arith))
+
+-- a walk of xs and then ys: xs went on to i and ys follow, or it ended in xs
+abbrev Then : ℕ → List Item → List Item → ℕ → Walk → Type 0
+Then m xs ys n (Going i) = (walked m (xs ++ ys) n ≡ walked m ys i) × (fitting (m - n) (xs ++ ys) ≡ fitting (m - n) xs ++ fitting (m - i) ys)
+Then m xs ys n (Stopped i) = (walked m (xs ++ ys) n ≡ Stopped i) × (fitting (m - n) (xs ++ ys) ≡ fitting (m - n) xs)
+Then m xs ys n (Deep f) = (walked m (xs ++ ys) n ≡ Deep f) × (fitting (m - n) (xs ++ ys) ≡ fitting (m - n) xs)
+
+module _ (m : ℕ) (r : List ℕ) (xs ys : List Item) (n : ℕ) (h : n < m) where
+  one : {w : Walk} → walked m (xs ++ ys) (n + 1) ≡ w → walked m (row r ∷ (xs ++ ys)) n ≡ w
+  one q = walked-row m n r (xs ++ ys) h ∙ q
+
+  rows : fitting (m - (n + 1)) (xs ++ ys) ≡ fitting (m - (n + 1)) xs → fitting (m - n) (row r ∷ (xs ++ ys)) ≡ fitting (m - n) (row r ∷ xs)
+  rows q = fitting-row m n r (xs ++ ys) h ∙ ap (λ (x : List ℕ). r ++ x) q ∙ sym (fitting-row m n r xs h)
+
+  then-row : (w : Walk) → Then m xs ys (n + 1) w → Then m (row r ∷ xs) ys n w
+  then-row (Going i) s =
+      (one (s .0), fitting-row m n r (xs ++ ys) h ∙ ap (λ (x : List ℕ). r ++ x) (s .1) ∙ sym (append-assoc r _ _) ∙ ap (λ (x : List ℕ). x ++ fitting (m - i) ys) (sym (fitting-row m n r xs h)))
+  then-row (Stopped i) s = (one (s .0), rows (s .1))
+  then-row (Deep f) s = (one (s .0), rows (s .1))
+
+pub walked-then : (m : ℕ) (xs ys : List Item) (n : ℕ) → Then m xs ys n (walked m xs n)
+unfolding walked
+walked-then m [] ys n = (refl, rw (fitting-none (m - n)))
+walked-then m (tenth f ∷ xs) ys n = (refl, fitting-tenth (m - n) f (xs ++ ys) ∙ sym (fitting-tenth (m - n) f xs))
+walked-then m (row r ∷ xs) ys n = go (ltb n m) refl (walked-then m xs ys (n + 1))
   where
     go : (u : Bool) → ltb n m ≡ u → Then m xs ys (n + 1) (walked m xs (n + 1)) → Then m (row r ∷ xs) ys n (walked m (row r ∷ xs) n)
-    go true q k = let l = ltb-true n m q in subst (Then m (row r ∷ xs) ys n) (sym (walked-row m n r xs l)) (then-row m r xs ys n (walked m xs (n + 1)) l (s .0) k)
+    go true q k = let l = ltb-true n m q in subst (Then m (row r ∷ xs) ys n) (sym (walked-row m n r xs l)) (then-row m r xs ys n l (walked m xs (n + 1)) k)
     go false q k =
         let l = ltb-false n m q in
-        subst (Then m (row r ∷ xs) ys n) (sym (walked-full m n r xs l))
-        (record { on = walked-full m n r (xs ++ ys) l; bytes = fitting-full m n (row r ∷ xs ++ ys) l ∙ sym (fitting-full m n (row r ∷ xs) l) })
+        subst (Then m (row r ∷ xs) ys n) (sym (walked-full m n r xs l)) (walked-full m n r (xs ++ ys) l, fitting-full m n (row r ∷ xs ++ ys) l ∙ sym (fitting-full m n (row r ∷ xs) l))
 
 -- a walk counts no further than there are rows, and what it names lies in the partition
 abbrev pub WalkFits : ℕ → ℕ → Walk → Type 0
@@ -193,21 +201,21 @@ module _ (on : Bool) (m n : ℕ) where
           ap (lay b (32 * n)) (fitting-row m n r ys h) ∙ sym (lay-lay b r (fitting (m - (n + 1)) ys) (32 * n) (omega arith)) ∙ rw (z, e)
       go false e = lay-none b (32 * n) ∙ sym e ∙ sym (lay-none b′ (32 * (n + 1)))
 
-  went-laid : (xs ys : List Item) (b b′ : List ℕ) (i : ℕ) → Went m xs ys n i → i ≤ m → 32 * m ≤ length b → b′ ≡ lay b (32 * n) (writes on (m - n) xs)
+  went-laid : (xs ys : List Item) (b b′ : List ℕ) (i : ℕ) → fitting (m - n) (xs ++ ys) ≡ fitting (m - n) xs ++ fitting (m - i) ys → 32 * n + length (fitting (m - n) xs) ≡ 32 * i → i ≤ m → 32 * m ≤ length b
+      → b′ ≡ lay b (32 * n) (writes on (m - n) xs)
       → lay b (32 * n) (writes on (m - n) (xs ++ ys)) ≡ lay b′ (32 * i) (writes on (m - i) ys)
-  went-laid xs ys b b′ i g h room e = go on e
+  went-laid xs ys b b′ i g z h room e = go on e
     where
       go : (u : Bool) → b′ ≡ lay b (32 * n) (writes u (m - n) xs) → lay b (32 * n) (writes u (m - n) (xs ++ ys)) ≡ lay b′ (32 * i) (writes u (m - i) ys)
       go true e =
-          let z = g .long in
-          ap (lay b (32 * n)) (g .bytes) ∙ sym (lay-lay b (fitting (m - n) xs) (fitting (m - i) ys) (32 * n) (omega arith)) ∙ rw (z, e)
+          ap (lay b (32 * n)) g ∙ sym (lay-lay b (fitting (m - n) xs) (fitting (m - i) ys) (32 * n) (omega arith)) ∙ rw (z, e)
       go false e = lay-none b (32 * n) ∙ sym (lay-none b (32 * n)) ∙ sym e ∙ sym (lay-none b′ (32 * i))
 
-  ended-laid : (xs ys : List Item) (b : List ℕ) (w : Walk) → Ended m xs ys n w → lay b (32 * n) (writes on (m - n) xs) ≡ lay b (32 * n) (writes on (m - n) (xs ++ ys))
-  ended-laid xs ys b w g = ap (lay b (32 * n)) (go on)
+  ended-laid : (xs ys : List Item) (b : List ℕ) → fitting (m - n) (xs ++ ys) ≡ fitting (m - n) xs → lay b (32 * n) (writes on (m - n) xs) ≡ lay b (32 * n) (writes on (m - n) (xs ++ ys))
+  ended-laid xs ys b g = ap (lay b (32 * n)) (go on)
     where
       go : (u : Bool) → writes u (m - n) xs ≡ writes u (m - n) (xs ++ ys)
-      go true = sym (g .bytes)
+      go true = sym g
       go false = refl
 
 -- ---- the ways through the walk
@@ -265,21 +273,22 @@ module _ {m : ℕ} {on : Bool} {size : ℕ} {final : List ℕ} {w : Walk} where
   module _ (e : ℕ) (xs ys : List Item) {n : ℕ} {b b′ : List ℕ} {y : Walk} (s : Leaves m on size final w (xs ++ ys) n b) (z : Sized e xs) (h : n ≤ m)
     (q : y ≡ walked m xs n) (l : b′ ≡ lay b (32 * n) (writes on (m - n) xs)) where
     came : Then m xs ys n y
-    came = subst (Then m xs ys n) (sym q) (walked-then m e xs ys n z)
+    came = subst (Then m xs ys n) (sym q) (walked-then m xs ys n)
 
     pub leaves-back : {i : ℕ} → y ≡ Going i → length b′ ≡ length b → Leaves m on size final w ys i b′
     leaves-back {i} c k =
-        let g : Went m xs ys n i = subst (Then m xs ys n) c came in
+        let g : Then m xs ys n (Going i) = subst (Then m xs ys n) c came in
         let f : i ≤ m = subst (WalkFits m e) (sym q ∙ c) (walked-fits m e xs n h z) in
+        let a : 32 * n + length (fitting (m - n) xs) ≡ 32 * i = subst (Counts m n xs) (sym q ∙ c) (counts m e xs n z) in
         let u = s .long in
         let v = s .room in
-        record { left = sym (g .on) ∙ s .left; bytes = sym (went-laid on m n xs ys b b′ i g f (omega arith) l) ∙ s .bytes; long = k ∙ u; room = v }
+        record { left = sym (g .0) ∙ s .left; bytes = sym (went-laid on m n xs ys b b′ i (g .1) a f (omega arith) l) ∙ s .bytes; long = k ∙ u; room = v }
 
     pub leaves-stopped : {i : ℕ} → y ≡ Stopped i → (Stopped i ≡ w) × (b′ ≡ final)
-    leaves-stopped {i} c = let g : Ended m xs ys n (Stopped i) = subst (Then m xs ys n) c came in (sym (g .on) ∙ s .left, l ∙ ended-laid on m n xs ys b (Stopped i) g ∙ s .bytes)
+    leaves-stopped {i} c = let g : Then m xs ys n (Stopped i) = subst (Then m xs ys n) c came in (sym (g .0) ∙ s .left, l ∙ ended-laid on m n xs ys b (g .1) ∙ s .bytes)
 
     pub leaves-deep : {f : ℕ} → y ≡ Deep f → (Deep f ≡ w) × (b′ ≡ final)
-    leaves-deep {f} c = let g : Ended m xs ys n (Deep f) = subst (Then m xs ys n) c came in (sym (g .on) ∙ s .left, l ∙ ended-laid on m n xs ys b (Deep f) g ∙ s .bytes)
+    leaves-deep {f} c = let g : Then m xs ys n (Deep f) = subst (Then m xs ys n) c came in (sym (g .0) ∙ s .left, l ∙ ended-laid on m n xs ys b (g .1) ∙ s .bytes)
 
 module _ {m : ℕ} {on : Bool} {size : ℕ} {final : List ℕ} {w : Walk} (π : Partition) (l : List ℕ) (sel : Selection) where
   -- directory f, which has k entries and d levels left, this one counted
