@@ -16,8 +16,9 @@ enum { PERQ_DONE = 0, PERQ_ABSENT = 1, PERQ_REFUSED = 2 };
 /* A field that a call does not speak of is 0. */
 typedef struct perq_answer {
     uint32_t outcome; /* PERQ_DONE, PERQ_ABSENT or PERQ_REFUSED                          */
-    uint32_t number;  /* when refused: the number in document 01                         */
-    uint32_t block;   /* when refused by 4: the LBN of the malformed candidate           */
+    uint32_t number;  /* when refused: the number in document 01, or 11 (below)          */
+    uint32_t block;   /* when refused by 4: the LBN of the malformed candidate; by 11:   */
+                      /* that of the directory of the tenth level                        */
     uint32_t made;    /* changing calls: how many stores were made                       */
     uint32_t a, b, c; /* the call's values, below                                        */
 } perq_answer;
@@ -62,5 +63,28 @@ perq_answer perq_repair(uint8_t *image, size_t length, uint32_t drive, uint32_t 
  * refused as perq_read is (1, 2, 6, 4), then by 3 for a buffer of another length. PERQ_DONE: a = L + 1. */
 perq_answer perq_extract(const uint8_t *image, size_t length, uint32_t drive, uint32_t s, uint32_t f,
                          uint8_t *buffer, size_t buffer_length);
+
+/* ---- Request 1: directory names.
+ *
+ * `rule` is the hash rule, as data: 26 bytes w0 .. w25, or no bytes. The hash of a name of n characters c1 .. cn is
+ * (w0 * n + w1 * c1 + .. + wn * cn) mod 31, each letter taken as a capital. A block r of a directory is selected by a name if
+ * r mod 31 is its hash; with no bytes the rule is not known and every block is selected. Another length is refused by 3.
+ * Refusals: 1, 2, 3, 6 (the root is no file), 11.
+ */
+
+/* A path is simple names joined by '>', from the root down; the empty path is the root. Names are compared without case.
+ * PERQ_DONE: a = the file's LBN, b = 0; or a = 0, b = 1 where the entry is there but its target is no file (dangling).
+ * PERQ_ABSENT: the path is not there. Refused by 11: block = the directory of the tenth level. */
+perq_answer perq_look_up(const uint8_t *image, size_t length, uint32_t drive, uint32_t s,
+                         const uint8_t *rule, size_t rule_length, const uint8_t *path, size_t path_length);
+
+/* The tree, depth first, by block and entry: one row of 32 bytes for each entry taken, as many as fit.
+ *   bytes 0-3 the target's LBN (0 if dangling) · 4 level, 1 in the root · 5 what: 0 file, 1 directory, 2 dangling
+ *   6 length of the name · 7-31 the name as it stands on the disk, then zeros
+ * PERQ_DONE: a = the rows filled, b = 1 if the walk stopped because no row was left for the next entry. Bytes past the rows filled
+ * stay. A length that is no multiple of 32 is refused by 3. Refused by 11: the walk, as far as it went, met a directory of the tenth
+ * level; block = its LBN. */
+perq_answer perq_tree(const uint8_t *image, size_t length, uint32_t drive, uint32_t s,
+                      const uint8_t *rule, size_t rule_length, uint8_t *rows, size_t rows_length);
 
 #endif

@@ -3,7 +3,9 @@
 An image is any object that lends its bytes: bytes, bytearray, mmap, memoryview or array. The library works on those bytes
 where they are; the changing calls want an object that can be written. `drive` is a Drive, `s` names a partition by its
 first block, `f` a file by its own block, `r` a block of the file. A call that cannot do what it is asked raises Refused,
-and has then changed nothing. A block that a file does not have is None; an empty file has none at all.
+and has then changed nothing. A block that a file does not have is None; an empty file has none at all. In the calls on
+directories `rule` is the hash rule, which says in what blocks of a directory a name's entry is looked for: 26 bytes, or
+none where it is not known, and then all blocks are. A name is bytes, for a disk does not say what letters they stand for.
 
     from tapermoss import Drive, check, files, show
 
@@ -23,22 +25,27 @@ import ctypes
 import enum
 import functools
 import mmap
+import operator
 import os
 import pickle
 from collections.abc import Container, Iterator
 from typing import Any, NamedTuple, Optional, Union
 
 __all__ = [
-    'RECORD', 'DATA', 'DESCRIPTION', 'ALL', 'Writable', 'Readable',
-    'Drive', 'Source', 'Summary', 'Shown', 'Created', 'Refused', 'Answer', 'exports', 'call',
+    'RECORD', 'DATA', 'DESCRIPTION', 'ROW', 'ALL', 'Writable', 'Readable',
+    'Drive', 'Source', 'Summary', 'Shown', 'Target', 'What', 'Row', 'Tree', 'Created', 'Refused', 'Answer',
+    'exports', 'call',
     'lbn_to_pda', 'pda_to_lbn', 'lbn_to_lda', 'lda_to_lbn', 'lbn_to_fileid', 'fileid_to_lbn',
     'check', 'next_file', 'files', 'read', 'show', 'show_pair', 'description', 'extract', 'whole_file',
+    'look_up', 'tree',
     'blank', 'create', 'write', 'describe', 'destroy', 'repair',
 ]
 
 RECORD = 528
 DATA = 512
 DESCRIPTION = 104
+#: The bytes of a row as the library fills it.
+ROW = 32
 #: The limit that cuts no changing call short.
 ALL = 2 ** 32 - 1
 
@@ -47,6 +54,8 @@ Writable = Union[bytearray, memoryview, mmap.mmap, array.array]
 Readable = Union[bytes, Writable]
 
 _DONE, _ABSENT, _REFUSED = range(3)
+#: How many rows of a tree are asked for first.
+_FIRST_ROWS = 64
 
 
 class Drive(enum.IntEnum):
@@ -81,6 +90,54 @@ class Shown(NamedTuple):
     source: Source
 
 
+class Target(NamedTuple):
+    """What a path leads to: a file by its block, or None where the entry is dangling: there, but it names no file."""
+    lbn: Optional[int]
+
+
+class What(enum.Enum):
+    """What an entry of a directory names: a file that is no directory, one that is, or no file of the partition."""
+    FILE = 0
+    DIRECTORY = 1
+    DANGLING = 2
+
+
+class Row(NamedTuple):
+    """An entry of a tree: the block of the file it names or None if it is dangling, the level of the directory it stands
+    in, 1 for the root, its name as it stands on the disk, and the names from the root down to it, joined by `>`. The path
+    leads back here unless a name has a `>` in it or the same name stands earlier in its directory."""
+    lbn: Optional[int]
+    level: int
+    what: What
+    name: bytes
+    path: bytes
+
+
+class Tree(Iterator[Row]):
+    """The rows of a tree one after the other; `complete` says whether there are none behind the last."""
+    complete: bool
+
+    def __init__(self, filled: bytearray, complete: bool) -> None:
+        self.complete = complete
+        self._rows = _rows(filled)
+
+    def __next__(self) -> Row:
+        return next(self._rows)
+
+
+def _rows(filled: bytearray) -> Iterator[Row]:
+    """The rows that the library filled, each with its path."""
+    # The path of the entry last seen at each level: above a row stands the one of the level before.
+    last: list[bytes] = []
+    for at in range(0, len(filled), ROW):
+        row = bytes(filled[at:at + ROW])
+        level, what, name = row[4], What(row[5]), row[7:7 + row[6]]
+        del last[level - 1:]
+        last.append(last[-1] + b'>' + name if last else name)
+        lbn = None if what is What.DANGLING else int.from_bytes(row[:4], 'little')
+        yield Row(lbn, level, what, name, last[-1])
+
+
 class Created(NamedTuple):
     """What create made: the new file's block, and how many stores were made."""
     file: int
@@ -90,19 +147,21 @@ class Created(NamedTuple):
 _SENTENCES = {
     1: 'the image is empty, not made of 528-byte records, or too long for the drive',
     2: 'no good partition starts at this block',
-    3: 'the buffer does not have the length that the call fills or reads',
+    3: 'the buffer, the hash rule or the rows have a length that the call does not take',
     4: 'block {} is a malformed file block',
     5: 'the partition is not sound; repair mends it unless no block is free',
-    6: 'this block is no file of the partition',
+    6: 'this block, or the root directory, is no file of the partition',
     7: 'the block number is beyond what the file can have',
     8: 'the partition has too few free blocks',
     9: 'the partition has no free block, so there is no chain to repair',
     10: 'this number is no block, address or FileID of the drive',
+    11: 'the directory at block {} is of the tenth level, and only nine are looked into',
 }
 
 
 class Refused(Exception):
-    """A call that was refused: `number` says why, from 1 to 10; `block` is the malformed file block under number 4."""
+    """A call that was refused: `number` says why, from 1 to 11; `block` is the malformed file block under number 4, the
+    directory of the tenth level under number 11."""
     number: int
     block: int
 
@@ -147,6 +206,8 @@ _SIGNATURES = {
     'show_pair': _BYTES + _BYTES + [_U32] * 4,
     'description': _BYTES + [_U32] * 3 + _BYTES,
     'extract': _BYTES + [_U32] * 3 + _BYTES,
+    'look_up': _BYTES + [_U32] * 2 + _BYTES + _BYTES,
+    'tree': _BYTES + [_U32] * 2 + _BYTES + _BYTES,
     'create': _BYTES + [_U32] * 2 + [_U16, _U32],
     'write': _BYTES + [_U32] * 4 + _BYTES + [_U32],
     'describe': _BYTES + [_U32] * 3 + _BYTES + [_U32],
@@ -223,9 +284,13 @@ def call(name: str, *arguments: Union[int, Readable], writable: Container[int] =
     with contextlib.ExitStack() as stack:
         passed: list[Optional[int]] = []
         for place, argument in enumerate(arguments):
+            kind = function.argtypes[len(passed)]
             if isinstance(argument, int):
-                _must_fit(argument, function.argtypes[len(passed)])
+                _must_fit(argument, kind)
                 passed.append(argument)
+            elif kind in _MOST:
+                # Its address would be taken for the number, and all that follows for something else.
+                raise TypeError(f'a number is wanted, not {type(argument).__name__}')
             else:
                 passed += stack.enter_context(_lent(argument, place in writable))
         return function(*passed)
@@ -349,6 +414,51 @@ def whole_file(image: Readable, drive: int, s: int, f: int) -> bytearray:
     buffer = bytearray(DATA * max(last + 1, 0))
     extract(image, drive, s, f, buffer)
     return buffer
+
+
+# --- Directories ---
+
+def look_up(image: Readable, drive: int, s: int, path: Union[Readable, str], rule: Readable = b'') -> Optional[Target]:
+    """What a path leads to from the partition's root directory, or None if it is not there. A path is names joined by
+    `>`, compared without case; the empty one is the root. A str must be ASCII; a name with other bytes is given as bytes.
+
+        target = look_up(image, Drive.FLOPPY, 1, 'Mail>Memo')
+        if target is None:
+            print('not there')
+        elif target.lbn is None:
+            print('dangling')
+        else:
+            print('file', target.lbn)
+    """
+    path = path.encode('ascii') if isinstance(path, str) else path
+    answer = _given(call('look_up', image, drive, s, rule, path))
+    if answer.outcome == _ABSENT:
+        return None
+    return Target(None if answer.b else answer.a)
+
+
+def tree(image: Readable, drive: int, s: int, rule: Readable = b'', most: int = 65536) -> Tree:
+    """The entries of the root directory and of the directories below it, depth first, so many at most. They are those
+    at the time of the call, whatever becomes of the image. A file that several entries name comes up under each, so a
+    small image may have more entries than fit any memory: `most` is what the caller can hold.
+
+        rows = tree(image, Drive.FLOPPY, 1)
+        for row in rows:
+            print(row.lbn, row.what.name, row.path.decode('latin-1'))
+        if not rows.complete:
+            print('and more')
+    """
+    most = operator.index(most)
+    if most < 0:
+        raise OverflowError(f'{most} is no number of rows')
+    room = min(most, _FIRST_ROWS)
+    while True:
+        rows = bytearray(ROW * room)
+        answer = _given(call('tree', image, drive, s, rule, rows, writable={4}))
+        if not answer.b or room == most:
+            del rows[ROW * answer.a:]
+            return Tree(rows, not answer.b)
+        room = min(most, 2 * room)
 
 
 # --- Changing ---

@@ -1,16 +1,16 @@
 -- One law for each way through the code that reads an entry.
 use mathlib.Core.Path.{_≡_, refl, sym, ap, _∙_}
-use mathlib.Core.Bool.{Bool, true, false, _||_}
+use mathlib.Core.Bool.{Bool, true, false}
 use mathlib.Core.List.{List, [], _∷_}
-use Prim.Native.Nat.{ℕ, zero, suc, _+_, _-_, _*_, _/_, _%_, _≤_, _<_}
+use Prim.Native.Nat.{ℕ, _+_, _-_, _*_, _/_, _%_, _≤_, _<_}
 use native.Mathlib.Omega.{arith}
 use native.Mathlib.Numerals.{add-one}
 use native.Mathlib.Nat.{mul-le-mul}
-use lib.Dec.{leb, ltb, eqb}
+use lib.Dec.{eqb}
 use lib.ListN.{length, getD, take, drop}
 use borrow.Author.Tests.{lt-leb, le-leb, leb-true, ne-eqb, eq-eqb, eqb-true, not-true, not-false}
 use borrow.Author.Needs.{needs}
-use Rattle.base.specs.Tests.{pick, both, every, all}
+use Rattle.base.specs.Tests.{pick, both, every}
 use Rattle.base.specs.Laws.{both-right, every-at}
 use Rattle.drive.specs.Address.{lda, ldaBlock}
 use Rattle.image.specs.View.{pair}
@@ -20,8 +20,7 @@ use Rattle.volume.specs.Files.{Partition, partitionOf, isFile, isLda, name}
 use Rattle.volume.specs.Steps.{every-no, and-true, Passed, pass-next, pass-fails, pass-end, ne-of, eq-of}
 use Rattle.volume.specs.declared.Found.{Found}
 use Rattle.volume.specs.declared.Found.the-variants.{At, Nothing}
-use Rattle.directory.specs.Directory.{upper, sameName, Selection, weigh, hash, isRule, selected, entryAt, targetAt, nameLength, nameAt, takenAt, isDirectory, fileAt, targetOf, metTarget, placeOf, metAt}
-use Rattle.directory.specs.declared.Met.{Met}
+use Rattle.directory.specs.Directory.{upper, sameName, Selection, weigh, hash, isRule, selected, nameLength, takenAt, isDirectory, fileAt, targetOf, metTarget, placeOf, metAt}
 use Rattle.directory.specs.declared.Met.the-variants.{Skip, Taken}
 
 -- ---- capitals

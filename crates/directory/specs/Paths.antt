@@ -43,7 +43,7 @@ module _ (π : Partition) (l : List ℕ) (sel : Selection) (part : List ℕ) (f 
       z ∙ rw (hit, d, m, q)
 
   module _ {w : Found} (s : Searching (hit π l sel part f) (16 * k) (16 * r + i) w) {x : Bool} (h : i < 16) (c : r < k) (q : b ≡ name π (view l) f r)
-    (z : x ≡ both (takenAt l sel r (528 * b + 16 + 32 * i)) (sameName (nameAt l (528 * b + 16 + 32 * i)) part)) where
+      (z : x ≡ both (takenAt l sel r (528 * b + 16 + 32 * i)) (sameName (nameAt l (528 * b + 16 + 32 * i)) part)) where
     pub find-hit : x ≡ true → At (16 * r + i) ≡ w
     find-hit t = search-hit s (omega arith) (hit-at h q z) t
 
@@ -78,7 +78,7 @@ unfolding entered
 enter-absent π l sel part f q h = rw (entered, ← q, h)
 
 module _ (π : Partition) (l : List ℕ) (sel : Selection) (part : List ℕ) (f j b w : ℕ) {x y : Found} (q : x ≡ find π l sel part f) (h : x ≡ At j) (n : b ≡ name π (view l) f (j / 16))
-  (p : w ≡ pair (view l) b (9 + 16 * (j % 16))) (z : y ≡ fileAt π l w) where
+    (p : w ≡ pair (view l) b (9 + 16 * (j % 16))) (z : y ≡ fileAt π l w) where
   there : asLooked y ≡ entered π l sel part f
   unfolding entered
   there = rw (entered, ← q, h, ← n, ← p, ← z)

@@ -5,9 +5,7 @@ use volume::Outcome;
 use volume::Part;
 
 pub mod entry; // entry.rt: what an entry is, and the root
-
 mod find; // find.rt: an entry by its name
-
 mod look; // look.rt: look up of a path
 
 // What an entry of a directory is: not taken; or taken, with 0 for a file, 1 for a directory or 2 for dangling, and the target's LBN, 0 if dangling.

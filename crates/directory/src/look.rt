@@ -7,10 +7,10 @@ ghost use Rattle.image.specs.Image.{view};
 ghost use Rattle.volume.specs.Files.{partitionOf, isFile};
 ghost use Rattle.volume.specs.Reads.{Lies};
 ghost use Rattle.directory.specs.Directory.{isRule, selected, partEnd, entered, look, lookFrom, lookedAs, lookIn};
-use base::Refusal;
+use crate::Looked;
 use crate::entry;
 use crate::find;
-use crate::Looked;
+use base::Refusal;
 use inspect::index;
 use volume::Found;
 use volume::Outcome;
@@ -55,7 +55,15 @@ fn enter(img: &[u8], drive: usize, s: usize, e: usize, rule: &[u8], f: usize, pa
 }
 
 // A path that is not empty, from the root down.
-fn look(img: &[u8], drive: usize, s: usize, e: usize, rule: &[u8], root: usize, path: &[u8]) -> Looked
+fn look(
+    img: &[u8],
+    drive: usize,
+    s: usize,
+    e: usize,
+    rule: &[u8],
+    root: usize,
+    path: &[u8],
+) -> Looked
     requires { ⌜ (Lies drive (now img) s e) × (isRule (now rule) ≡ true) × (isFile (partitionOf drive s e) (view (now img)) root ≡ true) ⌝ }
     ensures { λ a. ⌜ a ≡ look (partitionOf drive s e) (now (img .entry)) (selected (now (rule .entry))) 9 (now (path .entry)) 0 root ⌝ }
 {

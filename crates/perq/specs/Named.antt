@@ -2,14 +2,12 @@
 use mathlib.Core.Path.{_≡_, refl}
 use mathlib.Core.Bool.{Bool, true, false}
 use mathlib.Core.List.{List}
-use Prim.Native.Nat.{ℕ, _+_, _/_, _%_, _≤_, _<_}
+use Prim.Native.Nat.{ℕ, _/_, _%_, _<_}
 use native.Mathlib.Omega.{arith}
 use lib.Dec.{ltb, eqb}
-use lib.ListN.{length}
 use borrow.Author.Tests.{ltb-true}
 use Rattle.base.specs.Tests.{pick, both}
 use Rattle.base.specs.declared.Refusal.the-variants.{BadBuffer}
-use Rattle.image.specs.Image.{view}
 use Rattle.volume.specs.Files.{Partition, partitionOf}
 use Rattle.volume.specs.Reads.{lies}
 use Rattle.volume.specs.Answers.{partition, inPartition}
@@ -17,8 +15,6 @@ use Rattle.volume.specs.declared.Found.{Found}
 use Rattle.volume.specs.declared.Found.the-variants.{At, Nothing}
 use Rattle.volume.specs.declared.Part.{Part}
 use Rattle.volume.specs.declared.Part.the-variants as part
-use Rattle.volume.specs.declared.Outcome.{Outcome}
-use Rattle.volume.specs.declared.Outcome.the-variants.{Done, Absent, Refused}
 use Rattle.directory.specs.Directory.{selected, isRule, rootOf, lookFrom, lookedAs, lookRoot, lookIn, lookUp, tree, walked, fitting, mostRows, walkedAs, refusedTree, treeRoot, treeIn, treePart, treed}
 use Rattle.directory.specs.Entries.{file-at}
 use Rattle.directory.specs.Paths.{LookedIn, lookFrom-in}
@@ -26,7 +22,7 @@ use Rattle.directory.specs.declared.Looked.{Looked}
 use Rattle.directory.specs.declared.Looked.the-variants as looked
 use Rattle.directory.specs.declared.Walk.{Walk}
 use Rattle.directory.specs.declared.Walk.the-variants.{Going, Stopped, Deep}
-use Rattle.tree.specs.Walks.{WalkFits, walked-fits, tree-sized}
+use Rattle.tree.specs.Items.{WalkFits, walked-fits, tree-sized}
 use Rattle.perq.specs.Fits.{OutcomeFits, part-fits, pick-fits}
 
 looked-fits : (e : ℕ) → e < 69552 → (x : Looked) → LookedIn e x → OutcomeFits (lookedAs x)

@@ -7,7 +7,7 @@ use native.Mathlib.Omega.{arith}
 use lib.ListN.{length, getD, take, drop, replicate, length-append, length-drop, length-take, drop-of-length-le}
 use lib.Seq.{take-length, length-take-le, drop-drop}
 use Rattle.directory.specs.Directory.{entryAt, nameLength, nameAt, rowOf, lay}
-use Rattle.tree.specs.Walks.{lay-lay}
+use Rattle.tree.specs.Items.{lay-lay}
 
 span : (a n : ℕ) → a + n - a ≡ n
 span a n = omega arith

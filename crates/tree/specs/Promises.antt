@@ -1,5 +1,5 @@
 -- What the tree's definition promises of the caller's rows: none is touched under a refusal, and an answer of n rows laid 32 n bytes.
-use mathlib.Core.Path.{_≡_, refl, sym, ap, _∙_, subst}
+use mathlib.Core.Path.{_≡_, refl, subst}
 use mathlib.Core.Bool.{Bool, true, false}
 use mathlib.Core.List.{List, []}
 use Prim.Native.Nat.{ℕ, _+_, _-_, _*_, _%_}
@@ -21,7 +21,7 @@ use Rattle.directory.specs.Directory.{selected, isRule, rootOf, Item, tree, wal
 use Rattle.directory.specs.Entries.{file-at}
 use Rattle.directory.specs.declared.Walk.{Walk}
 use Rattle.directory.specs.declared.Walk.the-variants.{Going, Stopped, Deep}
-use Rattle.tree.specs.Walks.{lay-none, Counts, counts, tree-sized}
+use Rattle.tree.specs.Items.{lay-none, Counts, counts, tree-sized}
 
 -- what an answer says of the bytes laid
 abbrev Laid : Outcome → List ℕ → Type 0

@@ -10,14 +10,13 @@ ghost use Rattle.volume.specs.Reads.{Lies};
 ghost use Rattle.directory.specs.Directory.{isRule, mostRows, treeRoot, treeIn, treed, lay};
 ghost use Rattle.volume.specs.declared.Found.the-variants.{At};
 use base::Refusal;
-use directory::entry;
 use directory::Walk;
+use directory::entry;
 use volume::Found;
 use volume::Outcome;
 use volume::Part;
 
 mod row; // row.rt: a row
-
 mod walk; // walk.rt: the walk
 
 // How many rows n bytes are, at most as many as an answer counts.
@@ -57,14 +56,7 @@ fn tree_from(
 }
 
 // The tree in the partition s to e.
-fn tree_in(
-    img: &[u8],
-    drive: usize,
-    s: usize,
-    e: usize,
-    rule: &[u8],
-    rows: &mut [u8],
-) -> Outcome
+fn tree_in(img: &[u8], drive: usize, s: usize, e: usize, rule: &[u8], rows: &mut [u8]) -> Outcome
     requires { ⌜ Lies drive (now img) s e ⌝ }
     ensures { λ a. ⌜ (a ≡ treeIn (partitionOf drive s e) (now (img .entry)) (now (rule .entry)) (length (now (rows .entry))) .outcome) × (now (rows .exit) ≡ lay (now (rows .entry)) 0 (treeIn (partitionOf drive s e) (now (img .entry)) (now (rule .entry)) (length (now (rows .entry))) .rows)) ⌝ }
 {

@@ -1,7 +1,7 @@
 // The walk of a tree: its remaining depth falls at each level.
 ghost use mathlib.Core.Path.{_≡_};
 ghost use mathlib.Core.Bool.{true};
-ghost use Prim.Native.Nat.{_+_, _*_, _-_, _≤_, _<_};
+ghost use Prim.Native.Nat.{_*_, _-_, _≤_, _<_};
 ghost use lib.ListN.{length};
 ghost use Rattle.image.specs.Image.{view};
 ghost use Rattle.volume.specs.Files.{partitionOf, isFile};
@@ -9,9 +9,9 @@ ghost use Rattle.volume.specs.Reads.{Lies};
 ghost use Rattle.directory.specs.Directory.{isRule, selected, tree, walked, lay};
 ghost use Rattle.tree.specs.Walks.{writes};
 use crate::row;
-use directory::entry;
 use directory::Met;
 use directory::Walk;
+use directory::entry;
 use inspect::index;
 
 // Directory f and what lies below it with `left` levels left, n of `most` rows filled so far; the rows are written if `on`.

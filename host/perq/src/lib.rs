@@ -2,7 +2,8 @@
 //!
 //! The work is done by a library that is proved against its specification; this crate gives it Rust's types. An image is a
 //! slice of 528-byte records in the order of their logical block numbers (LBNs). A partition is named by `s`, its first
-//! block; a file by `f`, the block that describes it; a block of a file by `r`, counted from 0.
+//! block; a file by `f`, the block that describes it; a block of a file by `r`, counted from 0. The names of files stand in
+//! directories: `look_up` follows a path from the root down, `tree` lists all that is there.
 //!
 //! Every call takes any image at all: one that it cannot accept is refused with a [`Refusal`], and then nothing was stored
 //! and no buffer was touched.
@@ -22,6 +23,8 @@
 mod address;
 #[cfg(feature = "changing")]
 mod changing;
+#[cfg(feature = "reading")]
+mod directory;
 mod drive;
 #[allow(unsafe_code)]
 pub mod raw;
@@ -34,6 +37,8 @@ pub use address::{
 };
 #[cfg(feature = "changing")]
 pub use changing::{blank, create, describe, destroy, repair, write, Created, ALL};
+#[cfg(feature = "reading")]
+pub use directory::{look_up, tree, Row, Rule, Target, Tree, What, ROW};
 pub use drive::Drive;
 #[cfg(feature = "reading")]
 pub use reading::{

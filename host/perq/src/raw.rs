@@ -8,9 +8,9 @@
 pub struct Answer {
     /// [`DONE`], [`ABSENT`] or [`REFUSED`].
     pub outcome: u32,
-    /// When refused: why, from 1 to 10.
+    /// When refused: why, from 1 to 11.
     pub number: u32,
-    /// When refused by 4: the LBN of the malformed file block.
+    /// When refused by 4: the LBN of the malformed file block; by 11: that of the directory of the tenth level.
     pub block: u32,
     /// Changing calls: how many stores were made.
     pub made: u32,
@@ -80,6 +80,26 @@ extern "C" {
         f: u32,
         buffer: *mut u8,
         buffer_length: usize,
+    ) -> Answer;
+    fn perq_look_up(
+        image: *const u8,
+        length: usize,
+        drive: u32,
+        s: u32,
+        rule: *const u8,
+        rule_length: usize,
+        path: *const u8,
+        path_length: usize,
+    ) -> Answer;
+    fn perq_tree(
+        image: *const u8,
+        length: usize,
+        drive: u32,
+        s: u32,
+        rule: *const u8,
+        rule_length: usize,
+        rows: *mut u8,
+        rows_length: usize,
     ) -> Answer;
 }
 
@@ -222,6 +242,41 @@ pub fn description(image: &[u8], drive: u32, s: u32, f: u32, buffer: &mut [u8]) 
 pub fn extract(image: &[u8], drive: u32, s: u32, f: u32, buffer: &mut [u8]) -> Answer {
     unsafe {
         perq_extract(image.as_ptr(), image.len(), drive, s, f, buffer.as_mut_ptr(), buffer.len())
+    }
+}
+
+/// What a path leads to: the file `a`, or, where `b` is 1, an entry that names no file. The rule has 26 bytes or none.
+#[cfg(feature = "reading")]
+pub fn look_up(image: &[u8], drive: u32, s: u32, rule: &[u8], path: &[u8]) -> Answer {
+    unsafe {
+        perq_look_up(
+            image.as_ptr(),
+            image.len(),
+            drive,
+            s,
+            rule.as_ptr(),
+            rule.len(),
+            path.as_ptr(),
+            path.len(),
+        )
+    }
+}
+
+/// Fills a row of 32 bytes for each entry of the tree, `a` of them; `b` is 1 where no row was left for the next entry.
+/// The rule has 26 bytes or none.
+#[cfg(feature = "reading")]
+pub fn tree(image: &[u8], drive: u32, s: u32, rule: &[u8], rows: &mut [u8]) -> Answer {
+    unsafe {
+        perq_tree(
+            image.as_ptr(),
+            image.len(),
+            drive,
+            s,
+            rule.as_ptr(),
+            rule.len(),
+            rows.as_mut_ptr(),
+            rows.len(),
+        )
     }
 }
 

@@ -16,6 +16,10 @@ use std::fmt;
 ///     Refusal::Malformed { block: 812 }.to_string(),
 ///     "refused (4): block 812 is a malformed file block"
 /// );
+/// assert_eq!(
+///     Refusal::TooDeep { block: 812 }.to_string(),
+///     "refused (11): the directory at block 812 is of the tenth level, and only nine are looked into"
+/// );
 /// ```
 #[derive(Clone, Copy, Debug, PartialEq, Eq, Hash)]
 pub enum Refusal {
@@ -23,7 +27,8 @@ pub enum Refusal {
     Image,
     /// 2: no good partition starts at the block that was named.
     Partition,
-    /// 3: a block's buffer is not 512 bytes, a description's not 104, or a whole file's not 512 for each block.
+    /// 3: a block's buffer is not 512 bytes, a description's not 104, or a whole file's not 512 for each block; a hash rule
+    /// has neither 26 bytes nor none; or a tree's rows are no multiple of 32 bytes.
     Buffer,
     /// 4: a block looks like a file's own block, but what it says does not hold together.
     Malformed {
@@ -32,7 +37,7 @@ pub enum Refusal {
     },
     /// 5: every file is well formed, but links, unused entries or the free chain are not as they must be.
     Unsound,
-    /// 6: the block that was named is no file of this partition.
+    /// 6: the block that was named is no file of this partition; in `look_up` and `tree`, its root directory is none.
     NoFile,
     /// 7: the block number is above 4,159, or in a write more than one past the file's last block.
     Range,
@@ -42,10 +47,15 @@ pub enum Refusal {
     NoFreeBlock,
     /// 10: a number that is no block, address or FileID of the drive; nil is none.
     Address,
+    /// 11: a directory of the tenth level would have to be looked into; the root is of the first.
+    TooDeep {
+        /// The LBN of that directory.
+        block: u32,
+    },
 }
 
 impl Refusal {
-    /// The refusal's number, 1 to 10.
+    /// The refusal's number, 1 to 11.
     pub fn number(self) -> u32 {
         match self {
             Refusal::Image => 1,
@@ -58,10 +68,11 @@ impl Refusal {
             Refusal::Full => 8,
             Refusal::NoFreeBlock => 9,
             Refusal::Address => 10,
+            Refusal::TooDeep { .. } => 11,
         }
     }
 
-    /// The refusal of a number; `block` is only looked at for 4.
+    /// The refusal of a number; `block` is only looked at for 4 and 11.
     pub fn from_number(number: u32, block: u32) -> Option<Refusal> {
         Some(match number {
             1 => Refusal::Image,
@@ -74,6 +85,7 @@ impl Refusal {
             8 => Refusal::Full,
             9 => Refusal::NoFreeBlock,
             10 => Refusal::Address,
+            11 => Refusal::TooDeep { block },
             _ => return None,
         })
     }
@@ -87,14 +99,16 @@ impl fmt::Display for Refusal {
                 "the image is empty, not made of 528-byte records, or too long for the drive",
             ),
             Refusal::Partition => out.write_str("no good partition starts at this block"),
-            Refusal::Buffer => {
-                out.write_str("the buffer does not have the length that the call fills or reads")
-            }
+            Refusal::Buffer => out.write_str(
+                "the buffer, the hash rule or the rows have a length that the call does not take",
+            ),
             Refusal::Malformed { block } => write!(out, "block {block} is a malformed file block"),
             Refusal::Unsound => {
                 out.write_str("the partition is not sound; repair mends it unless no block is free")
             }
-            Refusal::NoFile => out.write_str("this block is no file of the partition"),
+            Refusal::NoFile => out.write_str(
+                "this block, or the root directory, is no file of the partition",
+            ),
             Refusal::Range => out.write_str("the block number is beyond what the file can have"),
             Refusal::Full => out.write_str("the partition has too few free blocks"),
             Refusal::NoFreeBlock => {
@@ -103,6 +117,10 @@ impl fmt::Display for Refusal {
             Refusal::Address => {
                 out.write_str("this number is no block, address or FileID of the drive")
             }
+            Refusal::TooDeep { block } => write!(
+                out,
+                "the directory at block {block} is of the tenth level, and only nine are looked into"
+            ),
         }
     }
 }
@@ -118,7 +136,7 @@ pub(crate) fn found(answer: Answer) -> Result<Option<Answer>, Refusal> {
         DONE => Ok(Some(answer)),
         ABSENT => Ok(None),
         REFUSED => {
-            Err(Refusal::from_number(answer.number, answer.block).expect("a number from 1 to 10"))
+            Err(Refusal::from_number(answer.number, answer.block).expect("a number from 1 to 11"))
         }
         other => panic!("the library answered with outcome {other}"),
     }

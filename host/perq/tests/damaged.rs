@@ -3,6 +3,7 @@
 
 use reference::image::{RECORD, RELATIVE};
 use reference::sample::{blank, Rng};
+use reference::tree_sample::Tree;
 use trials::both::Both;
 use trials::call::{Call, Name};
 use trials::damage::{self, Field};
@@ -11,6 +12,7 @@ use trials::images::{set_pair, set_word, shuffled, some_lengths, word, Place, DA
 use trials::settings::{cases, long_run, rng};
 use trials::sweep;
 use trials::tally::Tally;
+use trials::trees::{some_tree, Planted};
 
 /// A partition with an empty file, a short one, and one each with one and with two pointer blocks.
 fn base(drive: u32, rng: &mut Rng) -> (Place, Vec<u8>) {
@@ -93,31 +95,56 @@ fn each_entry_of_a_pointer_block() {
     }
 }
 
-/// A few random reading calls on an image; a pair's second image is the same one, damaged once more.
-fn some_calls(image: Vec<u8>, place: &Place, count: u32, rng: &mut Rng, tally: &mut Tally) {
+/// A few random reading calls on an image, aimed at its tree if it has one; a pair's second image is the same one, damaged
+/// once more.
+fn some_calls(
+    image: Vec<u8>,
+    place: &Place,
+    tree: Option<&Tree>,
+    count: u32,
+    rng: &mut Rng,
+    tally: &mut Tally,
+) {
     let files = candidates(&image, place);
     let mut repaired = image.clone();
     damage::damage(&mut repaired, place, rng);
     let mut both = Both::new(image);
     for _ in 0..count {
-        let call = draw::call(&Name::READING, both.image(), place, &files, rng);
+        let mut call = draw::call(&Name::READING, both.image(), place, &files, rng);
+        if let Some(tree) = tree {
+            call = draw::aimed(call, tree, rng);
+        }
         let (answer, _) = both.call_with(&call, &repaired);
         tally.add(&call, answer);
     }
+}
+
+/// Files without directories.
+fn some_files(rng: &mut Rng) -> (Place, Vec<u8>) {
+    let n = 4 + rng.below(120);
+    let place = Place { drive: rng.below(4), n, s: 1 + rng.below(2), e: n - 1 };
+    let lengths = some_lengths(&place, 5, rng);
+    (place, shuffled(&place, &lengths, rng))
 }
 
 #[test]
 fn random_damage() {
     let (mut rng, mut tally) = (rng(14), Tally::default());
     for _ in 0..cases(60_000) / 20 {
-        let n = 4 + rng.below(120);
-        let place = Place { drive: rng.below(4), n, s: 1 + rng.below(2), e: n - 1 };
-        let lengths = some_lengths(&place, 5, &mut rng);
-        let mut image = shuffled(&place, &lengths, &mut rng);
+        let (place, mut image, tree) = match rng.below(4) {
+            0 => {
+                let Planted { tree, place, image } = some_tree(&mut rng);
+                (place, image, Some(tree))
+            }
+            _ => {
+                let (place, image) = some_files(&mut rng);
+                (place, image, None)
+            }
+        };
         for _ in 0..rng.below(4) {
             damage::damage(&mut image, &place, &mut rng);
         }
-        some_calls(image, &place, 20, &mut rng, &mut tally);
+        some_calls(image, &place, tree.as_ref(), 20, &mut rng, &mut tally);
     }
     tally.must_have_all(&Name::READING);
 }
@@ -154,7 +181,7 @@ fn random_records_in_a_good_partition() {
     for _ in 0..cases(40_000) / 10 {
         let place = Place::whole(rng.below(4), 3 + rng.below(12));
         let image = plausible(&place, &mut rng);
-        some_calls(image, &place, 10, &mut rng, &mut tally);
+        some_calls(image, &place, None, 10, &mut rng, &mut tally);
     }
 }
 
@@ -169,7 +196,7 @@ fn random_bytes() {
             set_pair(&mut image, place.s, DATA_WORD + 118, place.lda(place.s));
             set_pair(&mut image, place.s, DATA_WORD + 120, place.lda(place.e));
         }
-        some_calls(image, &place, 10, &mut rng, &mut tally);
+        some_calls(image, &place, None, 10, &mut rng, &mut tally);
     }
 }
 

@@ -4,22 +4,30 @@
 use perq::{raw, Drive};
 use reference::image::RECORD;
 use reference::sample::scattered;
+use reference::tree_sample::set_root;
 use trials::both::Both;
 use trials::call::{Call, Group, Name};
 use trials::images::{pair, set_pair, set_word, word, Place, DATA_WORD};
 use trials::tally::{is_refusal, refusals};
 
-/// A full partition: file 2 of 64 blocks, file 3 without any, one free block.
+/// A full partition: file 2 of 64 blocks, file 3 without any, one free block. File 2 is the root directory; what stands in
+/// it are random bytes.
 const PLACE: Place = Place { drive: 3, n: 70, s: 1, e: 68 };
 const FILE: u32 = 2;
 
 fn full_image() -> Vec<u8> {
-    scattered(PLACE.drive, PLACE.n, PLACE.s, PLACE.e, &[64, 0], 4)
+    image_with(64)
 }
 
 /// The same with room for more.
 fn roomy_image() -> Vec<u8> {
-    scattered(PLACE.drive, PLACE.n, PLACE.s, PLACE.e, &[60, 0], 4)
+    image_with(60)
+}
+
+fn image_with(length: u32) -> Vec<u8> {
+    let mut image = scattered(PLACE.drive, PLACE.n, PLACE.s, PLACE.e, &[length, 0], 4);
+    set_root(&mut image, PLACE.s, PLACE.lda(FILE));
+    image
 }
 
 /// A call on file 2 that is done, with every argument as it should be. A write replaces block 0.
@@ -34,6 +42,7 @@ fn right_length(name: Name, blocks: usize) -> usize {
         Name::Read | Name::Write => 512,
         Name::Description | Name::Describe => 104,
         Name::Extract => 512 * blocks,
+        Name::Tree => 32 * 9,
         _ => 0,
     }
 }
@@ -46,6 +55,7 @@ fn cause(number: u32, image: &mut [u8], call: &mut Call) {
             let start = pair(image, PLACE.s, DATA_WORD + 118);
             set_pair(image, PLACE.s, DATA_WORD + 118, start + 256);
         }
+        3 if call.name == Name::LookUp => call.rule.push(0),
         3 => call.buffer.push(0),
         4 => {
             // Blocks in use is one too many; in the other file too, so that the lowest is named.
@@ -58,6 +68,7 @@ fn cause(number: u32, image: &mut [u8], call: &mut Call) {
             let free = pair(image, PLACE.s, DATA_WORD + 4);
             set_pair(image, PLACE.s, DATA_WORD + 4, free + 1);
         }
+        6 if Name::DIRECTORIES.contains(&call.name) => set_root(image, PLACE.s, 0),
         6 => call.f = PLACE.s,
         7 => call.r = 4_160,
         8 if call.name == Name::Write && call.r == 0 => call.r = 64,
@@ -165,7 +176,8 @@ fn images_of_one_record_too_many_for_each_drive() {
 
 #[test]
 fn buffers_of_a_wrong_length() {
-    for name in exported().filter(|&name| refusals(name).contains(&3)) {
+    let by_length = |name: &Name| refusals(*name).contains(&3) && !Name::DIRECTORIES.contains(name);
+    for name in exported().filter(by_length) {
         for length in [0, 1, 103, 105, 511, 513, 1_024, 512 * 59, 512 * 61] {
             let (mut both, call) = answer_under(name, &[]);
             let answer = both.call(&call.with_buffer(&vec![1; length]));

@@ -29,22 +29,28 @@ def content(r):
     return bytes((r + i) % 256 for i in range(512))
 
 
+def lay_file(image, drive, f, blocks):
+    """A file of which f is the own block; its data stand in the blocks after it, in their order."""
+    data = list(range(f + 1, f + 1 + len(blocks)))
+    link(image, drive, [f, *data], serial=f, first=-1)
+    for r, block in enumerate(data):
+        set_pair(image, f, 8 + 52 + 2 * r, lbn_to_lda(drive, block))
+        image[RECORD * block + 16:RECORD * (block + 1)] = blocks[r]
+    set_words(image, f, 8 + 248, 5, 1 + len(data), len(data) - 1)
+    set_pair(image, f, 8 + 251, lbn_to_lda(drive, data[-1] if data else f))
+    set_words(image, f, 8 + 253, -1)
+    set_pair(image, f, 8 + 254, lbn_to_lda(drive, f))
+
+
 def sample(drive, n=40, blocks=3):
     """A sound partition from 1 to n - 1 with file 2 of so many blocks, the next ones after it."""
     image = bytearray(RECORD * n)
-    data, free = list(range(3, 3 + blocks)), list(range(3 + blocks, n))
+    free = list(range(3 + blocks, n))
     for word, block in ((8, free[0]), (10, free[-1]), (126, 1), (128, n - 1)):
         set_pair(image, 1, word, lbn_to_lda(drive, block))
     set_pair(image, 1, 12, len(free))
-    link(image, drive, [2, *data], serial=2, first=-1)
+    lay_file(image, drive, 2, [content(r) for r in range(blocks)])
     link(image, drive, free)
-    for r, block in enumerate(data):
-        set_pair(image, 2, 8 + 52 + 2 * r, lbn_to_lda(drive, block))
-        image[RECORD * block + 16:RECORD * (block + 1)] = content(r)
-    set_words(image, 2, 8 + 248, 5, 1 + blocks, blocks - 1)
-    set_pair(image, 2, 8 + 251, lbn_to_lda(drive, data[-1] if data else 2))
-    set_words(image, 2, 8 + 253, -1)
-    set_pair(image, 2, 8 + 254, lbn_to_lda(drive, 2))
     return image
 
 

@@ -1,4 +1,6 @@
 """The changing calls: example M12 with its cuts, every refusal, and all worked cases with their whole answers."""
+import os
+import struct
 import unittest
 import zlib
 
@@ -6,7 +8,7 @@ import tapermoss
 from tapermoss import Drive, Refused, Summary
 
 from .sample import malformed, sample, set_pair
-from .worked import CHANGES, FILLS, cases
+from .worked import BASE, CHANGES, FILLS, REQUEST_1, Put, cases
 
 DRIVE = Drive.SHUGART12
 
@@ -83,19 +85,33 @@ class Changing(unittest.TestCase):
 
 class Worked(unittest.TestCase):
     def test_every_case(self):
-        count = 0
-        for number, image, calls in cases():
-            for name, arguments, answer, image_sum, buffer_sum in calls:
-                with self.subTest(case=number, call=name):
-                    self.made_as_worked(image, name, arguments, answer, image_sum, buffer_sum)
-                    count += 1
-        self.assertGreater(count, 2000)
+        # 2,819 and 1,921 calls stand there.
+        for path, least in ((BASE, 2800), (REQUEST_1, 1900)):
+            count = 0
+            for number, image, steps in cases(path):
+                for step in steps:
+                    if isinstance(step, Put):
+                        step.into(image)
+                        continue
+                    with self.subTest(file=os.path.basename(path), case=number, call=step.name):
+                        self.made_as_worked(image, step)
+                        count += 1
+            self.assertGreater(count, least)
 
-    def made_as_worked(self, image, name, arguments, answer, image_sum, buffer_sum):
+    def made_as_worked(self, image, step):
         # The image comes first among the arguments, a buffer that is filled comes last.
-        writable = {0} if name in CHANGES else {len(arguments)} if name in FILLS else set()
-        found = tapermoss.call(name, image, *arguments, writable=writable)
-        self.assertEqual(tuple(getattr(found, field) for field, _ in found._fields_), answer)
-        self.assertEqual(zlib.crc32(image), image_sum)
-        if buffer_sum is not None:
-            self.assertEqual(zlib.crc32(arguments[-1]), buffer_sum)
+        writable = {0} if step.name in CHANGES else {len(step.arguments)} if step.name in FILLS else set()
+        found = tapermoss.call(step.name, image, *step.arguments, writable=writable)
+        self.assertEqual(tuple(getattr(found, field) for field, _ in found._fields_), step.answer)
+        self.assertEqual(zlib.crc32(image), step.image_sum)
+        if step.buffer_sum is not None:
+            self.assertEqual(zlib.crc32(step.arguments[-1]), step.buffer_sum)
+        if step.name == 'tree' and found.outcome == 0:
+            filled = step.arguments[-1][:32 * found.a]
+            self.assertEqual([plain(filled[at:at + 32]) for at in range(0, len(filled), 32)], step.rows)
+
+
+def plain(row):
+    """What the bytes of a row say, as a worked case has it."""
+    block, level, what, length, rest = struct.unpack('<IBBB25s', row)
+    return block, level, what, rest[:length]

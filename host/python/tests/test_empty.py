@@ -7,10 +7,10 @@ import textwrap
 import unittest
 
 import tapermoss
-from tapermoss import Drive, Refused, Source, Summary
+from tapermoss import Drive, Refused, Source, Summary, Target
 
 from .apart import FOLDER, LIBRARY, python
-from .sample import content, sample
+from .sample import content, sample, set_pair
 
 DRIVE = Drive.FLOPPY
 
@@ -34,6 +34,8 @@ def reading(image):
         lambda: tapermoss.description(image, DRIVE, 1, 2),
         lambda: tapermoss.extract(image, DRIVE, 1, 2, bytearray()),
         lambda: tapermoss.whole_file(image, DRIVE, 1, 2),
+        lambda: tapermoss.look_up(image, DRIVE, 1, ''),
+        lambda: list(tapermoss.tree(image, DRIVE, 1)),
     ]
 
 
@@ -71,11 +73,15 @@ class Empty(unittest.TestCase):
 
     def test_a_file_without_blocks(self):
         image = sample(DRIVE, blocks=0)
-        answers = [Summary(1, 1, 37), 2, [2], False, None, (None, Source.REPAIRED), bytes(104), 0, b'']
+        # It is the root directory too.
+        set_pair(image, 1, 14, tapermoss.lbn_to_lda(DRIVE, 2))
+        answers = [Summary(1, 1, 37), 2, [2], False, None, (None, Source.REPAIRED), bytes(104), 0, b'', Target(2), []]
         self.assertEqual([call() for call in reading(image)], answers)
         self.assertEqual(tapermoss.show_pair(image, b'', DRIVE, 1, 2, 0), (None, Source.ORIGINAL))
         for buffer in empties():
             self.assertEqual(tapermoss.extract(image, DRIVE, 1, 2, buffer), 0)
+            self.assertEqual(tapermoss.look_up(image, DRIVE, 1, buffer, buffer), Target(2))
+            self.assertEqual(list(tapermoss.tree(image, DRIVE, 1, buffer)), [])
         for place, answer in enumerate([(3, 3), 4, 1, 3, 39]):
             image = sample(DRIVE, blocks=0)
             self.assertEqual(changing(image)[place](), answer)

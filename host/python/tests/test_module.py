@@ -6,6 +6,7 @@ import inspect
 import multiprocessing
 import os
 import pickle
+import re
 import shutil
 import tempfile
 import typing
@@ -24,8 +25,8 @@ class Refusals(unittest.TestCase):
         self.assertEqual((refusal.number, refusal.block, str(refusal)), (number, block, sentence))
 
     def test_a_copy_says_the_same(self):
-        for number in (*range(1, 11), 99):
-            refusal = Refused(number, 7 if number == 4 else 0)
+        for number in (*range(1, 12), 99):
+            refusal = Refused(number, 7 if number in (4, 11) else 0)
             whole = number, refusal.block, str(refusal)
             for protocol in range(pickle.HIGHEST_PROTOCOL + 1):
                 self.same(pickle.loads(pickle.dumps(refusal, protocol)), *whole)
@@ -43,6 +44,15 @@ class Refusals(unittest.TestCase):
     def test_repair_is_not_promised_where_no_block_is_free(self):
         sentence = 'refused (5): the partition is not sound; repair mends it unless no block is free'
         self.assertEqual(str(Refused(5)), sentence)
+
+    def test_the_sentences_are_those_of_the_crate(self):
+        with open(os.path.join(FOLDER, '..', 'perq', 'src', 'refusal.rs')) as file:
+            shown = file.read().split('impl fmt::Display for Refusal')[1]
+        sentences = re.findall(r'Refusal::\w+[^"]*=>[^"]*"([^"]*)"', shown)
+        said = [str(Refused(number, 812)) for number in range(1, 12)]
+        self.assertEqual(said, [f'refused ({i}): ' + sentence.replace('{block}', '812')
+                                for i, sentence in enumerate(sentences, 1)])
+        self.assertEqual(str(Refused(12)), 'refused (12): the number is not known')
 
 
 def defined():
@@ -79,6 +89,8 @@ class Names(unittest.TestCase):
 
     def test_every_field_has_its_hint(self):
         named = {tapermoss.Summary: ['files', 'owned', 'free'], tapermoss.Shown: ['view', 'source'],
+                 tapermoss.Target: ['lbn'], tapermoss.Row: ['lbn', 'level', 'what', 'name', 'path'],
+                 tapermoss.Tree: ['complete'],
                  tapermoss.Created: ['file', 'made'], tapermoss.Refused: ['number', 'block'],
                  tapermoss.Answer: [name for name, _ in tapermoss.Answer._fields_]}
         for kind, fields in named.items():
@@ -91,6 +103,9 @@ class Names(unittest.TestCase):
         for call in (tapermoss.read, tapermoss.extract):
             hints = typing.get_type_hints(call)
             self.assertEqual((hints['image'], hints['buffer']), (tapermoss.Readable, tapermoss.Writable))
+        for call in (tapermoss.look_up, tapermoss.tree):
+            hints = typing.get_type_hints(call)
+            self.assertEqual((hints['image'], hints['rule']), (tapermoss.Readable, tapermoss.Readable))
 
 
 FIRST_CALL = '''

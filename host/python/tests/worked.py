@@ -1,31 +1,55 @@
-"""The worked cases of tests/worked/base.txt, read as they stand there: an image, and calls with their whole answers."""
+"""The worked cases of tests/worked, read as they stand there: an image, and calls with their whole answers."""
 import os
 import re
+from typing import NamedTuple
 
 import tapermoss
 
-PATH = os.path.join(os.path.dirname(__file__), '..', '..', '..', 'tests', 'worked', 'base.txt')
+FOLDER = os.path.join(os.path.dirname(__file__), '..', '..', '..', 'tests', 'worked')
+BASE, REQUEST_1 = (os.path.join(FOLDER, name) for name in ('base.txt', 'request-1.txt'))
 #: The calls whose buffer is filled, and those that change the image.
-FILLS = {'read', 'description', 'extract'}
+FILLS = {'read', 'description', 'extract', 'tree'}
 CHANGES = {'create', 'write', 'describe', 'destroy', 'repair'}
 
 
-def cases(path=PATH):
-    """Each case as its number, its image and its calls: (name, arguments, answer, image's CRC, buffer's CRC or None)."""
+class Put(NamedTuple):
+    """Bytes that go into the image, before the first call or between two."""
+    at: int
+    data: bytes
+
+    def into(self, image):
+        image[self.at:self.at + len(self.data)] = self.data
+
+
+class Call(NamedTuple):
+    """A call with its whole answer, the sums of the image and of the buffer after it, and the rows that it filled."""
+    name: str
+    arguments: list
+    answer: tuple
+    image_sum: int
+    buffer_sum: int
+    rows: list
+
+
+def cases(path):
+    """Each case as its number, an image of zeros, and its puts and calls in their order."""
     with open(path) as file:
         for line in file:
             words = line.split()
             if not words or words[0].startswith('#'):
                 continue
             if words[0] == 'case':
-                number, image, calls = int(words[1]), bytearray(tapermoss.RECORD * int(words[5])), []
+                number, image, steps = int(words[1]), bytearray(tapermoss.RECORD * int(words[5])), []
             elif words[0] == 'put':
-                at, data = int(words[1]), bytes.fromhex(words[2])
-                image[at:at + len(data)] = data
+                steps.append(Put(int(words[1]), bytes.fromhex(words[2])))
             elif words[0] == 'call':
-                calls.append(one_call(line))
+                steps.append(one_call(line))
+            elif words[0] == 'row':
+                steps[-1].rows.append((*map(int, words[1:4]), bytes.fromhex(words[4])))
             elif words[0] == 'end':
-                yield number, image, calls
+                yield number, image, steps
+            else:
+                raise ValueError(f'{path} has a line of no known kind: {line}')
 
 
 def one_call(line):
@@ -33,9 +57,15 @@ def one_call(line):
     name, arguments, answer, image_sum, buffer_sum = found.groups()
     answer = tuple(int(word) for word in answer.split())
     sums = int(image_sum, 16), None if buffer_sum is None else int(buffer_sum, 16)
-    return (name, [argument(word) for word in arguments.split()], answer, *sums)
+    return Call(name, [argument(word) for word in arguments.split()], answer, *sums, [])
 
 
 def argument(word):
     """A number, or a buffer that the call may fill."""
-    return bytearray.fromhex(word[4:]) if word.startswith('hex:') else int(word)
+    kind, *rest = word.split(':')
+    if kind == 'hex':
+        return bytearray.fromhex(rest[0])
+    if kind == 'pattern':
+        length, k = map(int, rest)
+        return bytearray((k + 7 * i + i // 128) % 256 for i in range(length))
+    return int(word)

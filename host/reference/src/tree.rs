@@ -82,7 +82,7 @@ pub fn tree(image: &[u8], drive: u32, s: u32, rule: &[u8], rows: &mut [u8]) -> A
     let mut listed = || {
         let partition = Partition::named(image, drive, s)?;
         let rule = Rule::lent(rule)?;
-        Refusal::unless(rows.len().is_multiple_of(ROW), 3)?;
+        Refusal::unless(rows.len() % ROW == 0, 3)?;
         let root = root(&partition)?;
         let room = rows.len() / ROW;
         let (listings, targets) = (HashMap::new(), HashMap::new());

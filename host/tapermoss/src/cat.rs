@@ -1,6 +1,7 @@
 //! `tapermoss cat`: a whole file to standard output.
 
 use crate::image::{PartitionArguments, Reading};
+use crate::named::NamedFile;
 use crate::names::hex;
 use crate::problem::Problem;
 use crate::told::Told;
@@ -13,19 +14,20 @@ All 512 bytes of every block come out, those behind the end of a text in its las
 
 Examples:
   tapermoss cat disk.img --file 211 > letter.text
+  tapermoss cat disk.img --path 'letters>first.text' > letter.text
   tapermoss cat --partition 210 disk.img --file 211 | strings";
 
 #[derive(Args)]
 pub struct Arguments {
     #[command(flatten)]
     place: PartitionArguments,
-    /// The file's block, as `files` lists it
-    #[arg(long, value_name = "LBN")]
-    file: u32,
+    #[command(flatten)]
+    file: NamedFile,
 }
 
 pub fn run(arguments: &Arguments) -> Result<Told, Problem> {
-    let (image, file) = (Reading::open(&arguments.place)?, arguments.file);
+    let image = Reading::open(&arguments.place)?;
+    let file = arguments.file.find(&image.bytes, image.drive, image.s)?;
     let bytes = perq::whole_file(&image.bytes, image.drive, image.s, file)
         .map_err(|refusal| image.asked().file(file).refused(refusal))?;
     let fields = json!({"file": file, "blocks": bytes.len() / DATA, "bytes": hex(&bytes)});

@@ -3,18 +3,23 @@
 use perq::{DESCRIPTION, RECORD};
 
 /// Data words of a partition's first block, and of the device's own block, LBN 0.
+pub const ROOT_DIRECTORY: usize = 6;
 pub const PARTITION_NAME: usize = 114;
 pub const PARTITION_END: usize = 120;
 pub const SUB_PARTITIONS: usize = 122;
 /// How many LDAs the table at SUB_PARTITIONS has.
 pub const TABLE: usize = 64;
 
-/// Data words of a file's own block.
+/// Data words of a file's own block. What sort of file it is stands in its description.
+pub const SORT: usize = 8;
 pub const DIRECT: usize = 52;
 pub const INDIRECT: usize = 180;
 pub const KIND: usize = 248;
 pub const BLOCKS_IN_USE: usize = 249;
 pub const LAST_BLOCK: usize = 250;
+
+/// The sort of a directory.
+pub const DIRECTORY: u16 = 3;
 
 /// The first byte of the name in a description: word 11.
 pub const NAME_AT: usize = 2 * 11;
@@ -57,6 +62,28 @@ pub fn escaped(bytes: &[u8]) -> String {
         _ => format!("\\x{byte:02x}"),
     };
     bytes.iter().map(shown).collect()
+}
+
+/// The bytes of a text that `escaped` has made; none where a backslash stands for nothing.
+pub fn unescaped(text: &[u8]) -> Option<Vec<u8>> {
+    let mut bytes = Vec::with_capacity(text.len());
+    let mut rest = text;
+    while let Some((&first, behind)) = rest.split_first() {
+        let (byte, behind) = match (first, behind) {
+            (b'\\', [b'\\', behind @ ..]) => (b'\\', behind),
+            (b'\\', [b'x', high, low, behind @ ..]) => (16 * digit(*high)? + digit(*low)?, behind),
+            (b'\\', _) => return None,
+            _ => (first, behind),
+        };
+        bytes.push(byte);
+        rest = behind;
+    }
+    Some(bytes)
+}
+
+/// The value of a hexadecimal digit.
+fn digit(letter: u8) -> Option<u8> {
+    char::from(letter).to_digit(16).map(|value| value as u8)
 }
 
 /// The name of a partition or of the device: up to eight characters, blanks or zeros after them.

@@ -1,8 +1,12 @@
-//! `tapermoss files`: the files of a partition. It asks for a good partition, not for a sound one.
+//! `tapermoss files`: the files of a partition, with the paths that its tree gives them. It asks for a good partition, not
+//! for a sound one.
 
-use crate::fields::{self, BLOCKS_IN_USE, KIND};
+use crate::directories::{Directories, ROWS};
+use crate::fields::{self, escaped, BLOCKS_IN_USE, KIND};
+use crate::hashing::RuleArguments;
 use crate::image::{PartitionArguments, Reading};
 use crate::names::hex;
+use crate::paths::{self, Paths};
 use crate::problem::Problem;
 use crate::told::Told;
 use crate::volume;
@@ -12,7 +16,10 @@ use serde_json::{json, Value};
 
 pub const EXAMPLES: &str = "\
 Blocks are those of data; in use counts the file's own block and its pointer blocks too. The name is the one in the file's
-description; what cannot be printed in it is escaped, and JSON has its bytes too.
+description; what cannot be printed in it is escaped, and JSON has its bytes too. The path is the one by which the directories
+lead to the file, as `tree` shows it; it is printed where it says another thing than the name: the two are compared
+without case, and a device and a partition before the name (sys:boot>) are passed over. JSON has all paths of every file. If
+there is no tree, it is said why.
 
 Examples:
   tapermoss files disk.img
@@ -22,6 +29,8 @@ Examples:
 pub struct Arguments {
     #[command(flatten)]
     place: PartitionArguments,
+    #[command(flatten)]
+    rule: RuleArguments,
 }
 
 /// A file, as it is listed.
@@ -33,6 +42,13 @@ struct Listed {
     blocks: u32,
     in_use: u16,
     name: Option<Vec<u8>>,
+}
+
+/// All that is listed.
+struct List {
+    files: Vec<Listed>,
+    malformed: Vec<u32>,
+    paths: Paths,
 }
 
 fn list(image: &[u8], drive: Drive, s: u32, f: u32) -> Result<Listed, Refusal> {
@@ -47,37 +63,72 @@ fn list(image: &[u8], drive: Drive, s: u32, f: u32) -> Result<Listed, Refusal> {
     })
 }
 
-fn as_json(files: &[Listed], malformed: &[u32]) -> Value {
+fn as_json(list: &List) -> Value {
+    let path = |path: &Vec<u8>| json!({"path": escaped(path), "path_bytes": hex(path)});
     let file = |file: &Listed| {
         json!({
             "lbn": file.lbn, "fileid": file.fileid, "kind": file.kind, "blocks": file.blocks,
-            "in_use": file.in_use, "name": file.name.as_deref().map(fields::escaped),
+            "in_use": file.in_use, "name": file.name.as_deref().map(escaped),
             "name_bytes": file.name.as_deref().map(hex),
+            "paths": list.paths.of(file.lbn).iter().map(path).collect::<Vec<Value>>(),
         })
     };
-    json!({"files": files.iter().map(file).collect::<Vec<_>>(), "malformed": malformed})
+    json!({
+        "files": list.files.iter().map(file).collect::<Vec<Value>>(),
+        "malformed": list.malformed,
+        "paths_remark": list.paths.remark,
+    })
 }
 
-fn as_text(files: &[Listed], malformed: &[u32]) -> String {
-    let mut text = "   LBN  FileID   kind  blocks  in use  name\n".to_string();
-    for file in files {
+/// The path that is printed beside a name, if one says another thing than it does.
+fn other_path(list: &List, file: &Listed) -> String {
+    let name = file.name.as_deref().unwrap_or_default();
+    let others: Vec<&Vec<u8>> =
+        list.paths.of(file.lbn).iter().filter(|path| !paths::says(name, path)).collect();
+    match others[..] {
+        [] => String::new(),
+        [path] => escaped(path),
+        [path, ..] => format!("{} (and {} more)", escaped(path), others.len() - 1),
+    }
+}
+
+fn as_text(list: &List) -> String {
+    let rows = list.files.iter().map(|file| {
+        let name = file.name.as_deref().map_or("-".to_string(), escaped);
+        (file, name, other_path(list, file))
+    });
+    let rows: Vec<(&Listed, String, String)> = rows.collect();
+    let wide = match rows.iter().any(|(_, _, path)| !path.is_empty()) {
+        true => rows.iter().map(|(_, name, _)| name.len()).max().unwrap_or(0).max("name".len()),
+        false => 0,
+    };
+    let line = |start: String, name: &str, path: &str| {
+        let line = format!("{start}  {name:<wide$}  {path}");
+        line.trim_end().to_string() + "\n"
+    };
+    let heading = if wide > 0 { "path" } else { "" };
+    let mut text = line("   LBN  FileID   kind  blocks  in use".to_string(), "name", heading);
+    for (file, name, path) in &rows {
         let fileid = file.fileid.map_or("-".to_string(), |fileid| fileid.to_string());
         let Listed { lbn, kind, blocks, in_use, .. } = file;
-        let name = file.name.as_deref().map_or("-".to_string(), fields::escaped);
-        text += &format!("{lbn:>6}  {fileid:>6}  {kind:>5}  {blocks:>6}  {in_use:>6}  {name}\n");
+        let start = format!("{lbn:>6}  {fileid:>6}  {kind:>5}  {blocks:>6}  {in_use:>6}");
+        text += &line(start, name, path);
     }
-    for block in malformed {
+    for block in &list.malformed {
         text += &format!("block {block} is a malformed file block\n");
     }
-    text
+    text + &list.paths.remark.as_ref().map_or(String::new(), |remark| format!("{remark}\n"))
 }
 
 pub fn run(arguments: &Arguments) -> Result<Told, Problem> {
+    let rule = arguments.rule.rule()?;
     let image = Reading::open(&arguments.place)?;
     let refused = |refusal| image.asked().refused(refusal);
     let survey = volume::survey(&image.bytes, image.drive, image.s).map_err(refused)?;
     let listed = survey.files.iter().map(|&f| list(&image.bytes, image.drive, image.s, f));
     let files = listed.collect::<Result<Vec<Listed>, Refusal>>().map_err(refused)?;
-    let text = as_text(&files, &survey.malformed);
-    Ok(Told::done(text, as_json(&files, &survey.malformed)))
+    let directories = Directories { image: &image.bytes, drive: image.drive, s: image.s, rule };
+    let paths = Paths::of_tree(&directories, ROWS);
+    let list = List { files, malformed: survey.malformed, paths };
+    Ok(Told::done(as_text(&list), as_json(&list)))
 }

@@ -7,26 +7,34 @@ mod batch;
 mod cat;
 mod changing;
 mod check;
+mod directories;
 mod drive;
 mod fields;
 mod files;
+mod hashing;
 mod image;
 mod keep;
 mod layout;
+mod learn;
 mod lock;
 mod map;
 mod mend;
+mod named;
 mod names;
 mod outcome;
 mod output;
+mod pair;
 mod part;
 mod partitions;
+mod paths;
 mod problem;
 mod repairing;
 mod rows;
+mod rule;
 mod show;
 mod told;
 mod tour;
+mod tree;
 mod volume;
 
 use changing::{create, describe, destroy, fresh, repair, write};
@@ -59,6 +67,12 @@ enum Command {
     /// List the files of a partition
     #[command(after_help = files::EXAMPLES)]
     Files(files::Arguments),
+    /// List the entries of a partition's directories as a tree
+    #[command(after_help = tree::EXAMPLES)]
+    Tree(tree::Arguments),
+    /// Learn the hash rule of directories from their entries
+    #[command(after_help = rule::EXAMPLES)]
+    Rule(rule::Arguments),
     /// Print a whole file
     #[command(after_help = cat::EXAMPLES)]
     Cat(cat::Arguments),
@@ -102,6 +116,8 @@ fn run(command: &Command) -> Result<Told, Problem> {
         Command::Partitions(arguments) => partitions::run(arguments),
         Command::Check(arguments) => check::run(arguments),
         Command::Files(arguments) => files::run(arguments),
+        Command::Tree(arguments) => tree::run(arguments),
+        Command::Rule(arguments) => rule::run(arguments),
         Command::Cat(arguments) => cat::run(arguments),
         Command::Show(arguments) => show::run(arguments),
         Command::Map(arguments) => map::run(arguments),

@@ -10,7 +10,7 @@ pub enum Outcome {
     Sound,
     /// The repaired image was checked again, and is sound.
     Repaired,
-    /// The file has no such block.
+    /// What was asked for is not there: a block of a file, a path, or entries to learn a rule from.
     Absent,
     /// A person must decide.
     SetAside,
@@ -74,4 +74,4 @@ Exit statuses of all commands; of several images or partitions it is that of the
   4  set aside: a person must decide
   5  unreadable: the system cannot read, write or lock a file
   6  another file has the name that was to be written
-  7  absent: the file has no such block";
+  7  absent: what was asked for is not there: a block of a file, a path, or entries to learn a rule from";

@@ -25,7 +25,7 @@ impl Problem {
     /// A refusal, in words that say more than the library's own.
     pub fn refused(refusal: Refusal, told: &str) -> Problem {
         let block = match refusal {
-            Refusal::Malformed { block } => Some(block),
+            Refusal::Malformed { block } | Refusal::TooDeep { block } => Some(block),
             _ => None,
         };
         let number = refusal.number();

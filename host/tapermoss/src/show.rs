@@ -1,24 +1,29 @@
 //! `tapermoss show`: one block of a file, from an image or from a pair of an original and a repaired one.
 
 use crate::asked::Asked;
-use crate::drive::{guess, the_drive, DriveArguments};
+use crate::drive::{the_drive, DriveArguments};
 use crate::image::{read, the_partition};
+use crate::named::{NamedFile, Wanted};
 use crate::names;
 use crate::outcome::Outcome;
+use crate::pair::{self, Pair};
 use crate::problem::Problem;
 use crate::told::Told;
 use clap::Args;
-use perq::{Drive, Refusal, Shown, Source, DATA, RECORD};
+use perq::{Drive, Source, DATA, RECORD};
 use serde_json::json;
 use std::path::{Path, PathBuf};
 
 pub const EXAMPLES: &str = "\
 From a pair the repaired image answers unless it refuses; then the original does, its refusal included. Which one it was is
-said before the bytes, with --raw on standard error. A block that the file does not have has exit status 7.
+said before the bytes, with --raw on standard error. A path is looked up in the image that answers: the repaired one unless
+it refuses the path or has only a dangling entry there. A block that the file does not have, or a path that leads to no file,
+has exit status 7.
 
 Examples:
   tapermoss show disk.img --file 211 --block 0
   tapermoss show disk.img --file 211 --block 0 --raw > block
+  tapermoss show disk.img --path 'letters>first.text' --block 0
   tapermoss show --original disk.img --repaired disk.img.repaired --file 211 --block 3";
 
 #[derive(Args)]
@@ -38,9 +43,8 @@ pub struct Arguments {
     /// The partition's first block [default: the only partition there is]
     #[arg(long, value_name = "S")]
     partition: Option<u32>,
-    /// The file's block, as `files` lists it
-    #[arg(long, value_name = "LBN")]
-    file: u32,
+    #[command(flatten)]
+    file: NamedFile,
     /// Which block of the file, from 0
     #[arg(long, value_name = "R")]
     block: u32,
@@ -50,11 +54,12 @@ pub struct Arguments {
 }
 
 /// A block that was asked for, and where it was found.
-struct Found<'a> {
-    bytes: Option<&'a [u8]>,
-    image: &'a [u8],
+pub struct Found<'a> {
+    pub file: u32,
+    pub bytes: Option<&'a [u8]>,
+    pub image: &'a [u8],
     /// Which image of a pair has answered.
-    from: Option<Source>,
+    pub from: Option<Source>,
 }
 
 pub fn run(arguments: &Arguments) -> Result<Told, Problem> {
@@ -66,62 +71,45 @@ pub fn run(arguments: &Arguments) -> Result<Told, Problem> {
 }
 
 fn from_one(arguments: &Arguments, image: &[u8]) -> Result<Told, Problem> {
-    let Arguments { file, block, .. } = *arguments;
     let drive = the_drive(image, arguments.drive)?;
     let s = the_partition(image, drive, arguments.partition)?;
-    let bytes = perq::show(image, drive, s, file, block)
-        .map_err(|refusal| Asked::of(image, drive, s).file(file).block(block).refused(refusal))?;
-    Ok(told(arguments, &Found { bytes, image, from: None }))
+    let file = arguments.file.find(image, drive, s)?;
+    let bytes = shown(image, drive, s, file, arguments.block)?;
+    Ok(told(arguments, &Found { file, bytes, image, from: None }))
+}
+
+/// A block of one image.
+pub fn shown(
+    image: &[u8],
+    drive: Drive,
+    s: u32,
+    file: u32,
+    block: u32,
+) -> Result<Option<&[u8]>, Problem> {
+    perq::show(image, drive, s, file, block)
+        .map_err(|refusal| Asked::of(image, drive, s).file(file).block(block).refused(refusal))
 }
 
 fn from_pair(arguments: &Arguments, original: &Path, repaired: &Path) -> Result<Told, Problem> {
-    let Arguments { file, block, .. } = *arguments;
-    let (original, no_original) = or_empty(original)?;
-    let (repaired, _) = or_empty(repaired)?;
-    let (drive, s) = of_pair(arguments, &original, &repaired)
-        .map_err(|problem| no_original.clone().unwrap_or(problem))?;
-    let Shown { bytes, from } = perq::show_pair(&original, &repaired, drive, s, file, block)
-        .map_err(|refusal| {
-            let asked = Asked::of(&original, drive, s).file(file).block(block);
-            no_original.unwrap_or_else(|| asked.refused(refusal))
-        })?;
-    let image = if from == Source::Repaired { &repaired } else { &original };
-    Ok(told(arguments, &Found { bytes, image, from: Some(from) }))
-}
-
-/// The bytes of one of a pair. A file that can be no image is lent as an empty one, which the library refuses by the same
-/// number, beside the sentence about it.
-fn or_empty(path: &Path) -> Result<(Vec<u8>, Option<Problem>), Problem> {
-    match read(path) {
-        Ok(bytes) => Ok((bytes, None)),
-        Err(problem) if problem.number == Some(Refusal::Image.number()) => {
-            Ok((Vec::new(), Some(problem)))
-        }
-        Err(problem) => Err(problem),
-    }
-}
-
-/// The drive and the partition of a pair: those of the repaired image or, where it has none, of the original.
-fn of_pair(
-    arguments: &Arguments,
-    original: &[u8],
-    repaired: &[u8],
-) -> Result<(Drive, u32), Problem> {
-    let by_size = [repaired, original].into_iter().find(|image| guess(image.len()).is_some());
-    let drive = the_drive(by_size.unwrap_or(original), arguments.drive)?;
-    let s = the_partition(repaired, drive, arguments.partition)
-        .or_else(|_| the_partition(original, drive, arguments.partition))?;
-    Ok((drive, s))
+    let wanted = arguments.file.wanted()?;
+    let (original, repaired) = (pair::or_empty(original)?, pair::or_empty(repaired)?);
+    let pair = Pair::of(&original, &repaired, arguments.drive, arguments.partition)?;
+    let found = match wanted {
+        Wanted::Block(file) => pair.by_block(file, arguments.block)?,
+        Wanted::Path { path, rule } => pair.by_path(&path, rule, arguments.block)?,
+    };
+    Ok(told(arguments, &found))
 }
 
 /// The block, a part of the image, after a line that says where it was found.
 fn told(arguments: &Arguments, found: &Found) -> Told {
-    let Arguments { file, block, raw, .. } = *arguments;
-    let (answered, source) = match found.from {
-        Some(Source::Repaired) => ("the repaired image answered: ", Some("repaired")),
-        Some(Source::Original) => ("the original image answered: ", Some("original")),
-        None => ("", None),
-    };
+    let Arguments { block, raw, .. } = *arguments;
+    let file = found.file;
+    let answered = found.from.map_or("", pair::answered);
+    let source = found.from.map(|from| match from {
+        Source::Repaired => "repaired",
+        Source::Original => "original",
+    });
     let at = |bytes: &[u8]| (bytes.as_ptr() as usize - found.image.as_ptr() as usize) / RECORD;
     let line = match found.bytes {
         Some(bytes) => format!("{answered}block {block} of file {file} is block {}", at(bytes)),

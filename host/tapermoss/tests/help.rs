@@ -16,7 +16,7 @@ fn commands() -> Vec<String> {
 #[test]
 fn the_commands_are_those_of_the_groups_that_are_exported() {
     let conversions = ["address", "tour"].as_slice();
-    let reading = ["partitions", "check", "files", "cat", "show", "map"].as_slice();
+    let reading = ["partitions", "check", "files", "tree", "rule", "cat", "show", "map"].as_slice();
     let changing =
         ["repair", "batch", "create", "write", "describe", "destroy", "fresh"].as_slice();
     let mut expected = conversions.to_vec();

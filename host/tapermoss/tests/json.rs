@@ -3,6 +3,7 @@
 
 mod common;
 
+use common::planted::{chain, letters};
 use common::{full, hex, malformed, pipe, sample, tool, unsound, Folder, FLOPPY};
 use reference::sample::scattered;
 use serde_json::{json, Value};
@@ -25,10 +26,12 @@ const STATUSES: [(&str, i32); 9] = [
     ("absent", 7),
 ];
 
-const COMMANDS: [&str; 15] = [
+const COMMANDS: [&str; 17] = [
     "partitions",
     "check",
     "files",
+    "tree",
+    "rule",
     "cat",
     "show",
     "map",
@@ -51,6 +54,9 @@ fn all_kinds() -> Folder {
     folder.put("malformed", &malformed());
     folder.put("full", &full());
     folder.put("tight", &scattered(FLOPPY, 432, 6, 11, &[3], 7));
+    folder.put("letters", &letters().image);
+    folder.put("deep", &chain(10).image);
+    folder.put("rule", b"1,2,3");
     folder.put("zeros", &[0; 528 * 432]);
     folder.put("ragged", &[0; 1000]);
     folder.put("empty", b"");
@@ -96,9 +102,10 @@ fn agree(object: &Value, status: i32) {
     let sentence = object["sentence"].as_str().unwrap_or_default();
     let whole = !sentence.ends_with(':') && !sentence.contains('\n');
     assert!(whole && sentence == sentence.trim(), "no sentence: {object}");
-    assert_eq!(object["block"].is_u64(), object["number"] == 4, "{object}");
+    let has_block = object["number"] == 4 || object["number"] == 11;
+    assert_eq!(object["block"].is_u64(), has_block, "{object}");
     if let Some(number) = object["number"].as_u64() {
-        assert!((1..=10).contains(&number) && matches!(status, 1 | 4), "{object}");
+        assert!((1..=11).contains(&number) && matches!(status, 1 | 4), "{object}");
         assert!(sentence.starts_with(&format!("refused ({number}): ")), "{object}");
     }
     assert!(status != 1 || object["number"].is_u64(), "refused without a number: {object}");
@@ -121,11 +128,15 @@ fn of_line(line: &str) -> Value {
 }
 
 /// Each command once at least, when all goes well, with a field of its own.
-const SUCCESSES: [(&str, &str, &str, &str); 18] = [
+const SUCCESSES: [(&str, &str, &str, &str); 26] = [
     ("partitions @disk", "done", "/partitions/0/first", "6"),
     ("check @disk", "sound", "/partitions/0/files", "3"),
     ("files @disk", "done", "/files/2/blocks", "70"),
+    ("files @letters", "done", "/files/2/paths/0/path", "\"letters>first.text\""),
+    ("tree @letters", "done", "/entries/1/path", "\"letters>first.text\""),
+    ("rule @letters", "done", "/entries", "5"),
     ("cat @disk --file 9", "done", "/blocks", "70"),
+    ("cat @letters --path letters>first.text", "done", "/file", "9"),
     ("show @disk --file 7 --block 0", "done", "/relative", "0"),
     ("show @disk --file 7 --block 0 --raw", "done", "/file", "7"),
     (
@@ -134,14 +145,23 @@ const SUCCESSES: [(&str, &str, &str, &str); 18] = [
         "/source",
         "\"repaired\"",
     ),
+    (
+        "show --original @letters --repaired @empty --path letters>first.text --block 0",
+        "done",
+        "/source",
+        "\"original\"",
+    ),
     ("map @disk", "done", "/files", "3"),
     ("repair @unsound", "repaired", "/partitions/0/files", "3"),
     ("repair @disk", "sound", "/written", "null"),
     ("batch @bare", "done", "/images", "[]"),
     ("create @disk", "done", "/file", "84"),
     ("write @disk --file 7 --from @short", "done", "/blocks", "1"),
+    ("write @letters --path letters>first.text --from @short", "done", "/file", "9"),
     ("describe @disk --file 7 --name x", "done", "/stores", "1"),
+    ("describe @letters --path letters --name x", "done", "/file", "8"),
     ("destroy @disk --file 9", "done", "/stores", "5"),
+    ("destroy @letters --path house.drawing", "done", "/file", "10"),
     ("fresh @new --drive 3", "done", "/last", "431"),
     ("address --drive 1 lbn 210", "done", "/lbn", "210"),
     ("tour", "done", "/wrong", "[]"),
@@ -162,7 +182,7 @@ fn every_command_answers_its_success_with_an_object() {
 }
 
 /// What the library refuses or a person must decide, with the number, and the block that is meant under 4.
-const REFUSALS: [(&str, &str, u64); 28] = [
+const REFUSALS: [(&str, &str, u64); 34] = [
     ("partitions @ragged", "refused", 1),
     ("partitions @empty", "refused", 1),
     ("check @empty", "refused", 1),
@@ -172,6 +192,12 @@ const REFUSALS: [(&str, &str, u64); 28] = [
     ("check @malformed", "set aside", 4),
     ("check @full", "refused", 5),
     ("files @disk --partition 5", "refused", 2),
+    ("tree @disk", "refused", 6),
+    ("tree @deep", "refused", 11),
+    ("rule @ragged", "refused", 1),
+    ("cat @disk --path x", "refused", 6),
+    ("cat @deep --path D>D>D>D>D>D>D>D>D>D", "refused", 11),
+    ("destroy @disk --path x", "refused", 6),
     ("cat @disk --file 10", "refused", 6),
     ("cat @malformed --file 7", "refused", 4),
     ("show @disk --file 7 --block 4160", "refused", 7),
@@ -199,18 +225,33 @@ fn a_refusal_has_its_number_and_block() {
         let object = of_line(line);
         assert_eq!(object["outcome"], outcome, "{line}: {object}");
         assert_eq!(object["number"], number, "{line}: {object}");
-        assert_eq!(object["block"].as_u64(), (number == 4).then_some(7), "{line}: {object}");
+        let block = match number {
+            4 => Some(7),
+            11 => Some(16),
+            _ => None,
+        };
+        assert_eq!(object["block"].as_u64(), block, "{line}: {object}");
     }
     let numbers: BTreeSet<u64> = REFUSALS.into_iter().map(|(_, _, number)| number).collect();
-    assert_eq!(numbers, (1..=10).collect(), "every number");
+    assert_eq!(numbers, (1..=11).collect(), "every number");
 }
 
-/// What has no number: the system's failures, names that are taken, and blocks that are not there.
-const OTHERS: [(&str, &str); 20] = [
+/// What has no number: the system's failures, names that are taken, and blocks and paths that are not there.
+const OTHERS: [(&str, &str); 30] = [
     ("partitions @nowhere", "unreadable"),
     ("check @bare", "unreadable"),
     ("files @nowhere", "unreadable"),
+    ("files @letters --rule @nowhere", "unreadable"),
+    ("tree @nowhere", "unreadable"),
+    ("tree @letters --rule @rule", "wrong use"),
+    ("rule @nowhere", "unreadable"),
     ("cat @nowhere --file 7", "unreadable"),
+    ("cat @letters --path none", "absent"),
+    ("cat @letters --path lost.text", "absent"),
+    ("cat @letters --path \\q", "wrong use"),
+    ("show @letters --path none --block 0", "absent"),
+    ("write @letters --path none --from @short", "absent"),
+    ("destroy @letters --path lost.text>x", "absent"),
     ("show @disk --file 7 --block 3", "absent"),
     ("show @disk --file 7 --block 3 --raw", "absent"),
     ("show --original @disk --repaired @disk --file 7 --block 3", "absent"),
@@ -239,7 +280,7 @@ fn an_error_has_its_object_too() {
 }
 
 /// Wrong uses that are found before any command runs, with a word that the sentence must have.
-const MISUSES: [(&str, &str); 26] = [
+const MISUSES: [(&str, &str); 33] = [
     ("", "subcommand"),
     ("bogus", "'bogus'"),
     ("partitions", "<IMAGE>"),
@@ -251,7 +292,14 @@ const MISUSES: [(&str, &str); 26] = [
     ("check @disk --partition", "--partition"),
     ("check @disk --partition 99999999999", "99999999999"),
     ("files", "<IMAGE>"),
+    ("tree", "<IMAGE>"),
+    ("tree @letters --rows 0", "'0'"),
+    ("tree @letters --rule", "--rule"),
+    ("rule", "<IMAGE>"),
     ("cat @disk", "--file"),
+    ("cat @disk", "--path"),
+    ("cat @disk --file 7 --path x", "--path"),
+    ("cat @disk --file 7 --rule 1", "--rule"),
     ("show @disk --file 7", "--block"),
     ("show --original @disk --file 7 --block 0", "--repaired"),
     ("map", "<IMAGE>"),

@@ -3,6 +3,7 @@
 
 mod common;
 
+use common::planted::letters;
 use common::{
     fails, full, hex, malformed, printed, printed_bytes, sample, set_bytes, tapermoss, told, tool,
     unsound, Folder, FLOPPY,
@@ -196,10 +197,12 @@ fn piped(arguments: &[&str], bytes: &[u8]) -> Output {
 fn an_image_in_a_pipe_is_refused_as_no_regular_file() {
     let folder = Folder::new();
     let out = folder.text("out");
-    let commands: [&[&str]; 8] = [
+    let commands: [&[&str]; 10] = [
         &["partitions"],
         &["check"],
         &["files"],
+        &["tree"],
+        &["cat", "--path", "letters"],
         &["cat", "--file", "7"],
         &["show", "--file", "7", "--block", "0"],
         &["repair", "--output", &out],
@@ -533,12 +536,15 @@ fn a_standard_error_that_takes_nothing_breaks_nothing() {
 fn a_standard_output_that_takes_nothing_is_status_5() {
     let folder = Folder::new();
     let image = folder.put("disk", &sample());
+    let letters = folder.put("letters", &letters().image);
     fs::create_dir(folder.path("images")).expect("a folder");
     let images = folder.text("images");
-    let lines: [&[&str]; 12] = [
+    let lines: [&[&str]; 14] = [
         &["partitions", &image],
         &["check", &image],
         &["files", &image],
+        &["tree", &letters],
+        &["cat", &letters, "--path", "letters>first.text"],
         &["cat", &image, "--file", "9"],
         &["show", &image, "--file", "7", "--block", "0", "--raw"],
         &["map", &image, "--force"],

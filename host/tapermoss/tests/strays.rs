@@ -20,11 +20,13 @@ const LONG: Duration = Duration::from_secs(20);
 /// How much memory a run may have: an image has 37 MB, a stray 3 GB.
 const ROOM: u64 = 1 << 30;
 /// Every command that reads an image, but for `show` of a pair.
-const READING: [&[&str]; 11] = [
+const READING: [&[&str]; 13] = [
     &["partitions"],
     &["check"],
     &["files"],
+    &["tree"],
     &["cat", "--file", "7"],
+    &["cat", "--path", "letters"],
     &["show", "--file", "7", "--block", "0"],
     &["map"],
     &["repair"],

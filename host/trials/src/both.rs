@@ -1,11 +1,12 @@
 //! One image in two copies: a call is made on the library with one and on the reference with the other, and everything
 //! that a caller could see must be the same.
 
-use crate::call::{on_library, on_reference, Call, Group};
+use crate::call::{on_library, on_reference, Call, Group, Name};
 use perq::RECORD;
 use reference::{Answer, REFUSED};
 
-/// Images up to this length are compared after every call, longer ones only after calls that change them.
+/// Images up to this length are compared after every call, longer ones only after calls that change them or look into
+/// directories.
 const SMALL: usize = 64 * RECORD;
 
 /// The two copies.
@@ -45,7 +46,8 @@ impl Both {
         let ours = ours.expect("the library exports the call");
         let theirs = on_reference(call, &mut self.reference, repaired, &mut buffers[1]);
         assert_eq!(ours, theirs, "library and reference answer otherwise to {}", told(call));
-        if call.name.group() == Group::Changing || self.library.len() <= SMALL {
+        let always = call.name.group() == Group::Changing || Name::DIRECTORIES.contains(&call.name);
+        if always || self.library.len() <= SMALL {
             self.must_be_alike(call);
         }
         assert!(buffers[0] == buffers[1], "the buffers differ after {}", told(call));
@@ -75,11 +77,11 @@ fn first_difference(one: &[u8], other: &[u8]) -> Option<usize> {
     Some(shared.unwrap_or_else(|| one.len().min(other.len())))
 }
 
-/// A call in a line; of its buffer only the length.
+/// A call in a line; of its rule and its buffer only the length.
 pub fn told(call: &Call) -> String {
-    let Call { name, drive, s, f, r, number, limit, ref buffer } = *call;
-    let length = buffer.len();
+    let Call { name, drive, s, f, r, number, limit, ref rule, ref path, ref buffer } = *call;
+    let (rule, path, buffer) = (rule.len(), path.escape_ascii(), buffer.len());
     format!(
-        "{name:?} drive {drive} s {s} f {f} r {r} number {number} limit {limit} buffer of {length}"
+        "{name:?} drive {drive} s {s} f {f} r {r} number {number} limit {limit} rule of {rule} path '{path}' buffer of {buffer}"
     )
 }

@@ -20,6 +20,8 @@ pub enum Name {
     ShowPair,
     Description,
     Extract,
+    LookUp,
+    Tree,
     Create,
     Write,
     Describe,
@@ -55,7 +57,7 @@ impl Name {
         Name::LbnToFileid,
         Name::FileidToLbn,
     ];
-    pub const READING: [Name; 7] = [
+    pub const READING: [Name; 9] = [
         Name::Check,
         Name::NextFile,
         Name::Read,
@@ -63,7 +65,11 @@ impl Name {
         Name::ShowPair,
         Name::Description,
         Name::Extract,
+        Name::LookUp,
+        Name::Tree,
     ];
+    /// Those of the reading calls that look into directories.
+    pub const DIRECTORIES: [Name; 2] = [Name::LookUp, Name::Tree];
     pub const CHANGING: [Name; 5] =
         [Name::Create, Name::Write, Name::Describe, Name::Destroy, Name::Repair];
 
@@ -89,14 +95,19 @@ pub struct Call {
     /// A conversion's number, what next_file goes on after, or create's kind.
     pub number: u32,
     pub limit: u32,
-    /// The caller's buffer before the call.
+    /// The hash rule of look_up and tree.
+    pub rule: Vec<u8>,
+    /// What look_up looks for.
+    pub path: Vec<u8>,
+    /// The caller's buffer before the call; tree's rows.
     pub buffer: Vec<u8>,
 }
 
 impl Call {
-    /// A call whose further arguments are 0, its limit the largest.
+    /// A call whose further arguments are 0 or empty, its limit the largest.
     pub fn new(name: Name, drive: u32, s: u32) -> Call {
-        Call { name, drive, s, f: 0, r: 0, number: 0, limit: u32::MAX, buffer: Vec::new() }
+        let (rule, path, buffer) = (Vec::new(), Vec::new(), Vec::new());
+        Call { name, drive, s, f: 0, r: 0, number: 0, limit: u32::MAX, rule, path, buffer }
     }
 
     pub fn conversion(name: Name, drive: u32, number: u32) -> Call {
@@ -119,9 +130,27 @@ impl Call {
         Call { limit, ..self }
     }
 
+    pub fn with_rule(self, rule: &[u8]) -> Call {
+        Call { rule: rule.to_vec(), ..self }
+    }
+
+    pub fn with_path(self, path: &[u8]) -> Call {
+        Call { path: path.to_vec(), ..self }
+    }
+
     pub fn with_buffer(self, buffer: &[u8]) -> Call {
         Call { buffer: buffer.to_vec(), ..self }
     }
+}
+
+/// The memory that a call is lent, each part of it apart from the others. A call looks only at its own.
+pub struct Lent<'a> {
+    pub image: &'a mut [u8],
+    /// The second image of a pair.
+    pub repaired: &'a [u8],
+    pub rule: &'a [u8],
+    pub path: &'a [u8],
+    pub buffer: &'a mut [u8],
 }
 
 /// Makes a call on one side; both have the same functions.
@@ -140,30 +169,34 @@ macro_rules! conversion {
 }
 
 macro_rules! reading {
-    ($side:ident, $call:ident, $image:ident, $repaired:ident, $buffer:ident) => {{
+    ($side:ident, $call:ident, $lent:ident) => {{
         let Call { drive, s, f, r, number, .. } = *$call;
+        let Lent { image, repaired, rule, path, buffer } = $lent;
         match $call.name {
-            Name::Check => $side::check($image, drive, s),
-            Name::NextFile => $side::next_file($image, drive, s, number),
-            Name::Read => $side::read($image, drive, s, f, r, $buffer),
-            Name::Show => $side::show($image, drive, s, f, r),
-            Name::ShowPair => $side::show_pair($image, $repaired, drive, s, f, r),
-            Name::Description => $side::description($image, drive, s, f, $buffer),
-            Name::Extract => $side::extract($image, drive, s, f, $buffer),
+            Name::Check => $side::check(image, drive, s),
+            Name::NextFile => $side::next_file(image, drive, s, number),
+            Name::Read => $side::read(image, drive, s, f, r, buffer),
+            Name::Show => $side::show(image, drive, s, f, r),
+            Name::ShowPair => $side::show_pair(image, repaired, drive, s, f, r),
+            Name::Description => $side::description(image, drive, s, f, buffer),
+            Name::Extract => $side::extract(image, drive, s, f, buffer),
+            Name::LookUp => $side::look_up(image, drive, s, rule, path),
+            Name::Tree => $side::tree(image, drive, s, rule, buffer),
             other => unreachable!("{other:?} does not read"),
         }
     }};
 }
 
 macro_rules! changing {
-    ($side:ident, $call:ident, $image:ident, $buffer:ident) => {{
+    ($side:ident, $call:ident, $lent:ident) => {{
         let Call { drive, s, f, r, number, limit, .. } = *$call;
+        let Lent { image, buffer, .. } = $lent;
         match $call.name {
-            Name::Create => $side::create($image, drive, s, number as u16, limit),
-            Name::Write => $side::write($image, drive, s, f, r, $buffer, limit),
-            Name::Describe => $side::describe($image, drive, s, f, $buffer, limit),
-            Name::Destroy => $side::destroy($image, drive, s, f, limit),
-            Name::Repair => $side::repair($image, drive, s, limit),
+            Name::Create => $side::create(image, drive, s, number as u16, limit),
+            Name::Write => $side::write(image, drive, s, f, r, buffer, limit),
+            Name::Describe => $side::describe(image, drive, s, f, buffer, limit),
+            Name::Destroy => $side::destroy(image, drive, s, f, limit),
+            Name::Repair => $side::repair(image, drive, s, limit),
             other => unreachable!("{other:?} does not change"),
         }
     }};
@@ -177,14 +210,19 @@ pub fn on_library(
     repaired: &[u8],
     buffer: &mut [u8],
 ) -> Option<Answer> {
-    // A build without the later groups looks at none of these.
-    let _ = (&image, &repaired, &buffer);
+    on_library_lent(call, Lent { image, repaired, rule: &call.rule, path: &call.path, buffer })
+}
+
+/// The same with the rule and the path in memory of the caller's choice as well.
+pub fn on_library_lent(call: &Call, lent: Lent) -> Option<Answer> {
+    // A build without the later groups looks at nothing that is lent.
+    let _ = &lent;
     let answer = match call.name.group() {
         Group::Conversions => conversion!(raw, call),
         #[cfg(feature = "reading")]
-        Group::Reading => reading!(raw, call, image, repaired, buffer),
+        Group::Reading => reading!(raw, call, lent),
         #[cfg(feature = "changing")]
-        Group::Changing => changing!(raw, call, image, buffer),
+        Group::Changing => changing!(raw, call, lent),
         #[allow(unreachable_patterns)]
         _ => return None,
     };
@@ -194,9 +232,10 @@ pub fn on_library(
 
 /// Makes a call on the reference.
 pub fn on_reference(call: &Call, image: &mut [u8], repaired: &[u8], buffer: &mut [u8]) -> Answer {
+    let lent = Lent { image, repaired, rule: &call.rule, path: &call.path, buffer };
     match call.name.group() {
         Group::Conversions => conversion!(reference, call),
-        Group::Reading => reading!(reference, call, image, repaired, buffer),
-        Group::Changing => changing!(reference, call, image, buffer),
+        Group::Reading => reading!(reference, call, lent),
+        Group::Changing => changing!(reference, call, lent),
     }
 }

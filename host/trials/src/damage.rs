@@ -3,7 +3,8 @@
 use crate::images::{
     is_candidate, pair, record, set_pair, set_record, set_word, word, Place, DATA_WORD,
 };
-use reference::image::{NEXT, PREVIOUS, RECORD, RELATIVE, SERIAL};
+use reference::directory::SORT;
+use reference::image::{NEXT, PREVIOUS, RECORD, RELATIVE, ROOT_DIRECTORY, SERIAL};
 use reference::sample::Rng;
 use reference::{lda_to_lbn, pda_to_lbn, DONE};
 
@@ -27,19 +28,28 @@ pub fn header_fields() -> Vec<Field> {
     vec![two(SERIAL), one(RELATIVE), one(3), two(NEXT), two(PREVIOUS)]
 }
 
-/// A file's own block: two words of its description, every entry of its index, and all that follows.
+/// A file's own block: three words of its description (the middle one tells directories), every entry of its index, and
+/// all that follows.
 pub fn fib_fields() -> Vec<Field> {
     let entries = (52..248).step_by(2).map(|at| two(DATA_WORD + at));
-    let numbers = [0, 51, 248, 249, 250, 253].map(|at| one(DATA_WORD + at));
+    let numbers = [0, SORT, 51, 248, 249, 250, 253].map(|at| one(DATA_WORD + at));
     let addresses = [251, 254].map(|at| two(DATA_WORD + at));
     entries.chain(numbers).chain(addresses).collect()
 }
 
-/// The partition's first block: head and tail of the free chain, its number, start and end, and a word of no meaning.
+/// The partition's first block: head and tail of the free chain, its number, the root directory, start and end, and a
+/// word of no meaning.
 pub fn pib_fields() -> Vec<Field> {
-    let mut fields: Vec<Field> = [0, 2, 4, 118, 120].iter().map(|at| two(DATA_WORD + at)).collect();
+    let pairs = [0, 2, 4, ROOT_DIRECTORY, 118, 120];
+    let mut fields: Vec<Field> = pairs.iter().map(|at| two(DATA_WORD + at)).collect();
     fields.push(one(DATA_WORD + 200));
     fields
+}
+
+/// The 16 entries of a directory block: the word that says whether it is valid, the address, the length with the first letter.
+pub fn entry_fields() -> Vec<Field> {
+    let entries = (DATA_WORD..DATA_WORD + 256).step_by(16);
+    entries.flat_map(|at| [one(at), two(at + 1), one(at + 3)]).collect()
 }
 
 /// The 128 entries of a pointer block.
@@ -76,7 +86,7 @@ fn other_kind(place: &Place, value: u32) -> u32 {
 
 /// Values worth trying in a field of one word that now holds `old`.
 pub fn likely_words(old: u16) -> Vec<u16> {
-    let mut values = vec![0, 1, 63, 64, 65, 191, 192, 4_158, 4_159, 4_160, 0x7FFF, 0x8000];
+    let mut values = vec![0, 1, 3, 63, 64, 65, 191, 192, 4_158, 4_159, 4_160, 0x7FFF, 0x8000];
     values.extend([65_535, 65_534, 65_533, 65_532, 65_531, 65_501, 65_500]);
     values.extend([old.wrapping_add(1), old.wrapping_sub(1), old.wrapping_neg(), old ^ 0x8000]);
     values
@@ -150,7 +160,7 @@ fn misplace(image: &mut [u8], place: &Place, rng: &mut Rng) {
 
 /// One random damage.
 pub fn damage(image: &mut [u8], place: &Place, rng: &mut Rng) {
-    match rng.below(8) {
+    match rng.below(9) {
         0 | 1 => set_some_field(image, place, place.any_block(rng), &header_fields(), rng),
         2 | 3 => {
             let b = block_like(place, rng, |b| is_candidate(image, place, b));
@@ -161,7 +171,11 @@ pub fn damage(image: &mut [u8], place: &Place, rng: &mut Rng) {
             let b = block_like(place, rng, |b| (word(image, b, RELATIVE) as i16) < -3);
             set_some_field(image, place, b, &pointer_fields(), rng);
         }
-        6 => misplace(image, place, rng),
+        6 => {
+            let b = block_like(place, rng, |b| (word(image, b, RELATIVE) as i16) >= 0);
+            set_some_field(image, place, b, &entry_fields(), rng);
+        }
+        7 => misplace(image, place, rng),
         _ => {
             let at = RECORD * place.any_block(rng) as usize + rng.below(RECORD as u32) as usize;
             image[at] ^= 1 << rng.below(8);

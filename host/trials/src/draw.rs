@@ -3,9 +3,13 @@
 use crate::call::{Call, Group, Name};
 use crate::images::{is_candidate, Place};
 use crate::sweep;
+use reference::directory::LONGEST;
 use reference::file::DESCRIPTION;
 use reference::image::DATA;
+use reference::random_tree::random_path;
 use reference::sample::Rng;
+use reference::tree::ROW;
+use reference::tree_sample::Tree;
 
 fn choose(from: &[u32], rng: &mut Rng) -> u32 {
     from[rng.below(from.len() as u32) as usize]
@@ -64,13 +68,46 @@ fn buffer(right: usize, rng: &mut Rng) -> Vec<u8> {
 }
 
 /// The bytes that a call's buffer should have.
-fn right_buffer(name: Name, length: u32) -> usize {
+fn right_buffer(name: Name, length: u32, rng: &mut Rng) -> usize {
     match name {
         Name::Read | Name::Write => DATA,
         Name::Description | Name::Describe => DESCRIPTION,
         Name::Extract => DATA * length as usize,
+        Name::Tree => ROW * rows(rng),
         _ => 0,
     }
+}
+
+/// How many rows a tree gets: none, one, some, or more than most trees have.
+fn rows(rng: &mut Rng) -> usize {
+    let some = 2 + rng.below(60);
+    choose(&[0, 1, some, some, some, 500], rng) as usize
+}
+
+/// The right rule, or once in a while another one, one of a wrong length among them.
+fn rule(right: &[u8], rng: &mut Rng) -> Vec<u8> {
+    let length = match rng.below(20) {
+        0 => choose(&[1, 2, 25, 27, 52], rng) as usize,
+        1 => LONGEST + 1,
+        2 => 0,
+        _ => return right.to_vec(),
+    };
+    let mut bytes = vec![0; length];
+    rng.fill(&mut bytes);
+    bytes
+}
+
+/// A few letters, joints among them; or nothing, which is the root.
+fn any_path(rng: &mut Rng) -> Vec<u8> {
+    (0..rng.below(8)).map(|_| b">>Aaz1"[rng.below(6) as usize]).collect()
+}
+
+/// A call with a rule, and a path for look_up, that fit the tree of its image; other calls are as they were.
+pub fn aimed(call: Call, tree: &Tree, rng: &mut Rng) -> Call {
+    if !Name::DIRECTORIES.contains(&call.name) {
+        return call;
+    }
+    Call { rule: rule(&tree.rule, rng), path: random_path(rng, tree), ..call }
 }
 
 /// A number to convert: a block or an address of one, or just beside it; or anything.
@@ -101,6 +138,11 @@ pub fn call(names: &[Name], image: &[u8], place: &Place, files: &[u32], rng: &mu
         5 => rng.below(place.n + 2),
         _ => rng.below(9),
     };
-    let buffer = buffer(right_buffer(name, length), rng);
-    Call { name, drive, s, f, r: block(length, rng), number, limit, buffer }
+    let buffer = buffer(right_buffer(name, length, rng), rng);
+    let r = block(length, rng);
+    let (rule, path) = match Name::DIRECTORIES.contains(&name) {
+        true => (rule(&[], rng), any_path(rng)),
+        false => (Vec::new(), Vec::new()),
+    };
+    Call { name, drive, s, f, r, number, limit, rule, path, buffer }
 }

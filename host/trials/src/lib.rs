@@ -15,4 +15,6 @@ pub mod images;
 pub mod settings;
 pub mod sweep;
 pub mod tally;
+pub mod trees;
 pub mod worked;
+pub mod worked_file;

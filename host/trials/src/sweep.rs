@@ -5,6 +5,8 @@ use crate::call::{Call, Name};
 use crate::images::{word, Place, DATA_WORD};
 use reference::file::{DESCRIPTION, LAST_BLOCK};
 use reference::image::{DATA, RECORD};
+use reference::tree::ROW;
+use reference::tree_sample::Tree;
 
 /// A buffer that shows where a call has not written.
 fn untouched(length: usize) -> Vec<u8> {
@@ -42,6 +44,19 @@ pub fn file(both: &mut Both, place: &Place, f: u32) {
     both.call(&base(Name::Description).with_buffer(&untouched(DESCRIPTION - 1)));
     both.call(&base(Name::Extract).with_buffer(&untouched(DATA * length as usize)));
     both.call(&base(Name::Extract).with_buffer(&untouched(DATA * length as usize + 1)));
+}
+
+/// The tree with none, one, some and many rows, and what these paths lead to; with the rule that fits, and with none.
+pub fn directories(both: &mut Both, place: &Place, tree: &Tree, paths: &[Vec<u8>]) {
+    for rule in [&tree.rule[..], &[]] {
+        let base = |name| place.call(name).with_rule(rule);
+        for rows in [0, 1, 7, 200] {
+            both.call(&base(Name::Tree).with_buffer(&untouched(ROW * rows)));
+        }
+        for path in paths {
+            both.call(&base(Name::LookUp).with_path(path));
+        }
+    }
 }
 
 /// Every block of a file read, shown and extracted; the three must be the same bytes.

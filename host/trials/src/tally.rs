@@ -4,17 +4,20 @@ use crate::call::{Call, Name};
 use reference::{Answer, ABSENT, DONE, REFUSED};
 use std::collections::BTreeMap;
 
-/// How often each call had each outcome: 0 for done, the number for refused, `NONE` for absent.
+/// How often each call had each outcome: 0 for done, the number for refused, `NONE` for absent, `PART` for part done.
 #[derive(Clone, Debug, Default)]
 pub struct Tally(BTreeMap<(String, u32), u64>);
 
 /// The outcome absent in a tally, where a refusal has its number and done is 0.
 pub const NONE: u32 = 100;
+/// Done in a tally, where a path leads to an entry that dangles, or a tree has more entries than rows.
+pub const PART: u32 = 101;
 
 impl Tally {
     pub fn add(&mut self, call: &Call, answer: Answer) {
         let outcome = match answer.outcome {
             ABSENT => NONE,
+            DONE if Name::DIRECTORIES.contains(&call.name) && answer.b == 1 => PART,
             DONE => 0,
             _ => answer.number,
         };
@@ -41,6 +44,7 @@ pub fn refusals(name: Name) -> &'static [u32] {
         Name::Show | Name::ShowPair => &[1, 2, 6, 4, 7],
         Name::Description => &[1, 2, 3, 6, 4],
         Name::Extract => &[1, 2, 6, 4, 3],
+        Name::LookUp | Name::Tree => &[1, 2, 3, 6, 11],
         Name::Create => &[1, 2, 4, 5, 8],
         Name::Write => &[1, 2, 3, 4, 5, 6, 7, 8],
         Name::Describe => &[1, 2, 3, 4, 5, 6],
@@ -53,8 +57,11 @@ pub fn refusals(name: Name) -> &'static [u32] {
 fn outcomes(name: Name) -> Vec<u32> {
     let mut outcomes = refusals(name).to_vec();
     outcomes.push(0);
-    if matches!(name, Name::NextFile | Name::Read | Name::Show | Name::ShowPair) {
+    if matches!(name, Name::NextFile | Name::Read | Name::Show | Name::ShowPair | Name::LookUp) {
         outcomes.push(NONE);
+    }
+    if Name::DIRECTORIES.contains(&name) {
+        outcomes.push(PART);
     }
     outcomes
 }

@@ -8,7 +8,7 @@ use serde_json::json;
 
 pub const EXAMPLES: &str = "\
 The new image is IMAGE.new unless --output or --in-place is given. The file has no blocks and no name yet; `write` and
-`describe` give it some.
+`describe` give it some. Directories stay as they are: no entry names the file, unless one was dangling that names its block.
 
 Examples:
   tapermoss create disk.img

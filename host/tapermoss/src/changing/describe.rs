@@ -13,11 +13,13 @@ use serde_json::json;
 use std::path::PathBuf;
 
 pub const EXAMPLES: &str = "\
-A name is 1 to 80 characters; the rest of the description stays as it is. A whole description is 104 bytes. The new image
-is IMAGE.new unless --output or --in-place is given.
+A name is 1 to 80 characters; the rest of the description stays as it is. A whole description is 104 bytes. Directories stay
+as they are: `tree` shows the file by the name that its entry has. The new image is IMAGE.new unless --output or --in-place
+is given.
 
 Examples:
   tapermoss describe disk.img --file 211 --name 'letters>first.text'
+  tapermoss describe disk.img --path 'letters>first.text' --name 'letters>first.text'
   tapermoss describe disk.img --file 211 --bytes description.bin --output work.img";
 
 /// The most characters of a name, as the manual has it.
@@ -44,12 +46,11 @@ fn name(text: &str) -> Result<String, String> {
 }
 
 pub fn run(arguments: &Arguments) -> Result<Told, Problem> {
-    let FileArguments { ref change, file } = arguments.file;
     let given = match &arguments.bytes {
         Some(path) => Some(some(path, DESCRIPTION)?),
         None => None,
     };
-    change.carry_out(|image| {
+    arguments.file.carry_out(|image, file| {
         let name = arguments.name.as_deref().unwrap_or_default();
         let new = given.unwrap_or_else(|| renamed(image, file, name));
         let made = describe(image, file, &new)?;

@@ -14,6 +14,7 @@ use crate::image::{the_partition, PartitionArguments};
 use crate::keep::{self, Existing, Like};
 use crate::lock::locked;
 use crate::mend::real;
+use crate::named::NamedFile;
 use crate::names::{name_bytes, shown};
 use crate::problem::Problem;
 use crate::told::{counted, Told};
@@ -62,9 +63,22 @@ impl TargetArguments {
 pub struct FileArguments {
     #[command(flatten)]
     change: ChangeArguments,
-    /// The file's block, as `files` lists it
-    #[arg(long, value_name = "LBN")]
-    file: u32,
+    #[command(flatten)]
+    file: NamedFile,
+}
+
+impl FileArguments {
+    /// Does the work on a copy of the image, as `ChangeArguments` does, and on a file: the one that is named in the image as
+    /// it is before the work.
+    fn carry_out(
+        &self,
+        work: impl FnOnce(&mut Changing, u32) -> Result<(String, Value), Problem>,
+    ) -> Result<Told, Problem> {
+        self.change.carry_out(|image| {
+            let file = self.file.find(&image.bytes, image.drive, image.s)?;
+            work(image, file)
+        })
+    }
 }
 
 /// A copy of an image that a command changes.

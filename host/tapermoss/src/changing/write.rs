@@ -19,6 +19,7 @@ are refused before the first block is written, and no image is written at all. T
 
 Examples:
   tapermoss write disk.img --file 211 --from letter.text
+  tapermoss write disk.img --path 'letters>first.text' --from letter.text
   tapermoss write disk.img --file 211 --from letter.text --block 4 --output work.img
   tapermoss write disk.img --file 211 --from letter.text --limit 2 --output cut.img";
 
@@ -39,8 +40,7 @@ pub fn run(arguments: &Arguments) -> Result<Told, Problem> {
     if bytes.is_empty() {
         return Err(Problem::usage(format!("{} has no bytes to write", shown(&arguments.from))));
     }
-    let FileArguments { ref change, file } = arguments.file;
-    change.carry_out(|image| {
+    arguments.file.carry_out(|image, file| {
         must_fit(image, file, arguments.block, bytes.len().div_ceil(DATA) as u32)?;
         let (blocks, made) = write(image, file, arguments.block, &bytes)?;
         let stores = image.stores(made);

@@ -1,6 +1,8 @@
 //! What the tests of the tool share: running it, a folder of their own, and sample images.
 #![allow(dead_code)] // each test program uses a part of this
 
+pub mod planted;
+
 use reference::image::{HEADER, RECORD};
 use reference::sample::scattered;
 use std::ffi::CString;

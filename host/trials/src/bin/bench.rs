@@ -4,6 +4,7 @@
 #[cfg(feature = "reading")]
 use perq::raw;
 use reference::sample::scattered;
+use reference::tree_sample::{plant, Line, Names, Node, Stand, Tree};
 use std::env;
 use std::hint::black_box;
 use std::time::Instant;
@@ -157,6 +158,53 @@ fn extracts() {
     }
 }
 
+/// A root with 20 directories of 99 files each, 2,000 entries in all, in a partition of some 2,150 blocks.
+fn two_thousand_entries() -> Vec<u8> {
+    let line = |node: usize, i: usize| {
+        let name = format!("Name{node:04}");
+        Line { stand: Stand::Block(i as u32 / 16), ..Line::new(name.as_bytes(), Names::Node(node)) }
+    };
+    let mut nodes = vec![Node::directory((1..=20).map(|node| line(node, node - 1)).collect())];
+    for directory in 0..20 {
+        let files = (0..99).map(|i| line(21 + 99 * directory + i, i)).collect();
+        nodes.push(Node::directory(files));
+    }
+    nodes.extend((0..1_980).map(|_| Node::file(0)));
+    let tree = Tree { rule: Vec::new(), nodes };
+    let e = tree.blocks() + 3;
+    plant(&tree, DRIVE, e + 1, 1, e)
+}
+
+/// The last file of the last directory, so that both are looked through to the end.
+#[cfg(feature = "reading")]
+const LAST_PATH: &[u8] = b"name0020>name2000";
+
+#[cfg(feature = "reading")]
+fn directories() {
+    let image = two_thousand_entries();
+    let mut rows = vec![0; 32 * 2_000];
+    let mut again = rows.clone();
+    let answer = raw::tree(&image, DRIVE, 1, &[], &mut rows);
+    assert_eq!((answer.a, answer.b), (2_000, 0), "the whole tree");
+    assert_eq!(raw::look_up(&image, DRIVE, 1, &[], LAST_PATH).a, 2_002, "the last file");
+    let mut ours = || {
+        black_box(raw::tree(black_box(&image), DRIVE, 1, &[], &mut rows));
+    };
+    let mut theirs = || {
+        black_box(reference::tree(black_box(&image), DRIVE, 1, &[], &mut again));
+    };
+    let [a, b] = least([&mut ours, &mut theirs]).map(|time| time / 2_000.0 * 1e9);
+    row("tree, 2,000 entries", "", a, "ns/entry", "reference", b);
+    let mut ours = || {
+        black_box(raw::look_up(black_box(&image), DRIVE, 1, &[], LAST_PATH));
+    };
+    let mut theirs = || {
+        black_box(reference::look_up(black_box(&image), DRIVE, 1, &[], LAST_PATH));
+    };
+    let [a, b] = least([&mut ours, &mut theirs]).map(|time| time * 1e9);
+    row("look up of a path in it", "", a, "ns", "reference", b);
+}
+
 #[cfg(feature = "changing")]
 fn repairs() {
     for m in SIZES {
@@ -178,10 +226,19 @@ fn repairs() {
 fn once(what: &str, m: u32) {
     let image = match what {
         "long" => long_files(m),
-        _ => empty_files(m),
+        "empty" => empty_files(m),
+        "tree" | "look_up" => two_thousand_entries(),
+        other => panic!("{other}: it is long, empty, tree or look_up"),
     };
     #[cfg(feature = "reading")]
-    println!("{:?}", raw::check(&image, DRIVE, 1));
+    println!(
+        "{:?}",
+        match what {
+            "tree" => raw::tree(&image, DRIVE, 1, &[], &mut vec![0; 32 * m as usize]),
+            "look_up" => raw::look_up(&image, DRIVE, 1, &[], LAST_PATH),
+            _ => raw::check(&image, DRIVE, 1),
+        }
+    );
     #[cfg(not(feature = "reading"))]
     println!("{} bytes, and no call to count in", image.len());
 }
@@ -189,8 +246,8 @@ fn once(what: &str, m: u32) {
 fn main() {
     let words: Vec<String> = env::args().skip(1).collect();
     if let [once_word, what, m] = words.as_slice() {
-        assert_eq!(once_word, "once", "usage: bench [once long|empty M]");
-        return once(what, m.parse().expect("a number of blocks"));
+        assert_eq!(once_word, "once", "usage: bench [once long|empty|tree|look_up M]");
+        return once(what, m.parse().expect("a number of blocks or rows"));
     }
     println!("{:<26} {:>7} {:>9} {:<9} {:>9}", "call", "blocks", "library", "", "ratio");
     conversions();
@@ -198,6 +255,7 @@ fn main() {
     {
         checks();
         extracts();
+        directories();
     }
     #[cfg(feature = "changing")]
     repairs();

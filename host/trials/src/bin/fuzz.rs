@@ -2,17 +2,19 @@
 //! side, and every answer, image and buffer is compared with the reference's. The run is one test: its last line is
 //! '1 passed, 0 failed'. A difference ends it, and TAPERMOSS_SEED starts it again from the same round.
 
+use reference::random_tree::random_tree;
 use reference::sample::Rng;
 use std::env;
 use std::fs::File;
 use std::os::unix::fs::FileExt;
 use std::time::{Duration, Instant, SystemTime, UNIX_EPOCH};
 use trials::both::told;
-use trials::call::{on_library, on_reference, Call, Name};
+use trials::call::{on_library_lent, on_reference, Call, Lent, Name};
 use trials::damage::damage;
 use trials::draw::{self, candidates};
 use trials::guard::{Guarded, Side};
 use trials::images::{set_pair, shuffled, some_lengths, Place, DATA_WORD};
+use trials::trees::{some_tree, Planted};
 
 const RECORD: usize = 528;
 const MOST_RECORDS: usize = 420;
@@ -24,34 +26,47 @@ fn names() -> Vec<Name> {
     all.filter(|name| name.group().exported()).collect()
 }
 
-/// Mostly a sound partition with some damage, at times bytes of no meaning under a good partition block.
-fn some_image(rng: &mut Rng) -> (Place, Vec<u8>) {
+/// Mostly a sound partition with some damage, at times bytes of no meaning under a good partition block. One in four has
+/// directories.
+fn some_image(rng: &mut Rng) -> Planted {
+    let mut planted = match rng.below(4) {
+        0 => some_tree(rng),
+        _ => some_files(rng),
+    };
+    let Planted { place, ref mut image, .. } = planted;
+    for _ in 0..rng.below(4) {
+        damage(image, &place, rng);
+    }
+    if rng.below(20) == 0 {
+        rng.fill(image);
+        set_pair(image, place.s, DATA_WORD + 118, place.lda(place.s));
+        set_pair(image, place.s, DATA_WORD + 120, place.lda(place.e));
+    }
+    planted
+}
+
+/// A sound partition without directories; the tree that comes with it is of another one.
+fn some_files(rng: &mut Rng) -> Planted {
     let most = if rng.below(10) == 0 { MOST_RECORDS as u32 } else { 30 };
     let n = 3 + rng.below(most - 3);
     let place = Place { drive: rng.below(4), n, s: 1, e: n - 1 };
-    let mut image = shuffled(&place, &some_lengths(&place, 5, rng), rng);
-    for _ in 0..rng.below(4) {
-        damage(&mut image, &place, rng);
-    }
-    if rng.below(20) == 0 {
-        rng.fill(&mut image);
-        set_pair(&mut image, place.s, DATA_WORD + 118, place.lda(place.s));
-        set_pair(&mut image, place.s, DATA_WORD + 120, place.lda(place.e));
-    }
-    (place, image)
+    let image = shuffled(&place, &some_lengths(&place, 5, rng), rng);
+    Planted { tree: random_tree(rng, 1), place, image }
 }
 
 /// The memory that the library is lent, one piece for each slice that a call can take.
 struct Room {
     image: Guarded,
     repaired: Guarded,
+    rule: Guarded,
+    path: Guarded,
     buffer: Guarded,
 }
 
 impl Room {
     fn new() -> Room {
         let new = || Guarded::new(RECORD * (MOST_RECORDS + 4));
-        Room { image: new(), repaired: new(), buffer: new() }
+        Room { image: new(), repaired: new(), rule: new(), path: new(), buffer: new() }
     }
 
     /// Makes a call on the library in guarded memory and on the reference, and compares. Both images are left changed.
@@ -60,18 +75,21 @@ impl Room {
         let lent = self.image.lend(image, side);
         let buffer = self.buffer.lend(&call.buffer, side);
         let second = self.repaired.lend(repaired, side);
-        let ours = on_library(call, lent, second, buffer).expect("only exported calls are drawn");
+        let (rule, path) = (self.rule.lend(&call.rule, side), self.path.lend(&call.path, side));
+        let slices = Lent { image: lent, repaired: second, rule, path, buffer };
+        let ours = on_library_lent(call, slices).expect("only exported calls are drawn");
         let mut expected = call.buffer.clone();
         let theirs = on_reference(call, image, repaired, &mut expected);
         assert_eq!(ours, theirs, "the answers to {}", told(call));
         assert!(lent == image && second == repaired, "the images after {}", told(call));
+        assert!(rule == call.rule && path == call.path, "rule and path after {}", told(call));
         assert!(*buffer == *expected, "the buffers after {}", told(call));
     }
 }
 
 /// One image and some calls on it, one after the other; once in a while its length is that of no image.
 fn round(names: &[Name], room: &mut Room, rng: &mut Rng) {
-    let (place, mut image) = some_image(rng);
+    let Planted { tree, place, mut image } = some_image(rng);
     let mut repaired = image.clone();
     damage(&mut repaired, &place, rng);
     let length = match rng.below(30) {
@@ -80,7 +98,7 @@ fn round(names: &[Name], room: &mut Room, rng: &mut Rng) {
     };
     for _ in 0..CALLS {
         let files = candidates(&image, &place);
-        let call = draw::call(names, &image, &place, &files, rng);
+        let call = draw::aimed(draw::call(names, &image, &place, &files, rng), &tree, rng);
         room.compare(&call, &mut image[..length], &repaired, rng);
     }
 }

@@ -1,6 +1,6 @@
 use mathlib.Core.Path.{sym, _∙_}
 use Rattle.base.specs.Tests.{both}
-use Rattle.volume.specs.Files.{candidate, isFile}
+use Rattle.volume.specs.Files.{isFile}
 use Rattle.volume.specs.Reads.{candidate-in}
 use borrow.Author.Needs.{needs}
 use Rattle.directory.proofs.entry.is_file.Statement.{statement}

@@ -1,10 +1,6 @@
 use Rattle.directory.specs.Entries.{rule-long, select-any, select-by}
-use borrow.Author.Needs.{needs}
 use Rattle.directory.proofs.entry.selected.Statement.{statement}
 use Rattle.directory.proofs.entry.selected.Tie as tie
-use Rattle.directory.proofs.entry.selected.Reads as reads
-use Rattle.directory.proofs.entry.selected.Lts as lts
-use Rattle.directory.proofs.entry.hash.Reads as hash-reads
 
 returns : tie.Need-returns
 returns c = select-any _ _ _ (c .if1 .taken)

@@ -1,12 +1,8 @@
 use Rattle.directory.specs.Entries.{product}
-use Prim.Native.Nat.{_*_, _≤_}
 use native.Mathlib.Omega.{arith}
 use mathlib.Core.Path.{refl}
-use borrow.Author.Needs.{needs}
 use Rattle.directory.proofs.entry.times.Statement.{statement}
 use Rattle.directory.proofs.entry.times.Tie as tie
-use Rattle.directory.proofs.entry.times.Reads as reads
-use Rattle.directory.proofs.entry.times.Lts as lts
 
 mul-result : tie.Need-mul-result
 mul-result c = let z = product (c .pre .0) (c .pre .1) in record { fits = omega arith }

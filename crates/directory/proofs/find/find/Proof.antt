@@ -1,4 +1,3 @@
-use denote.Ref.{now}
 use Prim.Native.Nat.{_+_, _-_, _*_, _≤_}
 use native.Mathlib.Omega.{arith}
 use Rattle.volume.specs.Files.{partitionOf}
@@ -7,10 +6,6 @@ use Rattle.directory.specs.Directory as defs
 use Rattle.directory.specs.Paths.{find-starts, find-to, find-hit, find-next}
 use Rattle.directory.proofs.find.find.Statement.{statement}
 use Rattle.directory.proofs.find.find.Tie as tie
-use Rattle.directory.proofs.find.find.Reads as reads
-use Rattle.directory.proofs.find.find.Lts as lts
-use Rattle.inspect.proofs.name.Reads as name-reads
-use Rattle.directory.proofs.find.has_name.Reads as has-name-reads
 
 abbrev Inv-loop2 : tie.InvT-loop2
 Inv-loop2 img drive s e rule f p k part r b i₀ i = let π = partitionOf drive s e in (Searching (defs.hit π img (defs.selected rule) part f) (16 * k) (16 * r + i) (defs.find π img (defs.selected rule) part f)) × (i ≤ 16)

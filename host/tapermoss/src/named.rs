@@ -1,0 +1,63 @@
+//! The file that a command is about: named by its block, or by its path from the root directory.
+
+use crate::directories::Directories;
+use crate::fields::unescaped;
+use crate::hashing;
+use crate::names::{self, shown};
+use crate::problem::Problem;
+use clap::{ArgGroup, Args};
+use perq::{Drive, Rule};
+use std::ffi::OsString;
+use std::os::unix::ffi::OsStrExt;
+use std::path::{Path, PathBuf};
+
+/// The file on the command line, and the rule by which its path is looked up.
+#[derive(Args)]
+#[command(group(ArgGroup::new("named").required(true).multiple(false).args(["file", "path"])))]
+pub struct NamedFile {
+    /// The file's block, as `files` lists it
+    #[arg(long, value_name = "LBN")]
+    file: Option<u32>,
+    /// The file's path: names from the root directory down, joined by '>', as `tree` prints them; an empty one is the root
+    #[arg(long, value_name = "PATH")]
+    path: Option<OsString>,
+    #[arg(long, value_name = "RULE", conflicts_with = "file", value_parser = names::path(), help = hashing::HELP)]
+    rule: Option<PathBuf>,
+}
+
+/// What the command line asks for.
+pub enum Wanted {
+    Block(u32),
+    Path { path: Vec<u8>, rule: Rule },
+}
+
+impl NamedFile {
+    pub fn wanted(&self) -> Result<Wanted, Problem> {
+        match (self.file, &self.path) {
+            (Some(file), _) => Ok(Wanted::Block(file)),
+            (None, Some(path)) => {
+                let rule = hashing::given(self.rule.as_deref())?;
+                Ok(Wanted::Path { path: path_bytes(path)?, rule })
+            }
+            (None, None) => Err(Problem::usage("name the file with --file or --path")),
+        }
+    }
+
+    /// The file's block in an image.
+    pub fn find(&self, image: &[u8], drive: Drive, s: u32) -> Result<u32, Problem> {
+        match self.wanted()? {
+            Wanted::Block(file) => Ok(file),
+            Wanted::Path { path, rule } => Directories { image, drive, s, rule }.find(&path),
+        }
+    }
+}
+
+/// The bytes of a path that is written as `tree` prints it.
+fn path_bytes(path: &OsString) -> Result<Vec<u8>, Problem> {
+    unescaped(path.as_bytes()).ok_or_else(|| {
+        Problem::usage(format!(
+            "in a path a backslash is written \\\\ and a byte \\x and two digits, as `tree` prints them; '{}' has it otherwise",
+            shown(Path::new(path))
+        ))
+    })
+}
