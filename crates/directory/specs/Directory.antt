@@ -80,11 +80,11 @@ unfoldable pub takenAt : List ℕ → Selection → ℕ → ℕ → Bool
 takenAt l sel r at =
     every (eqb (getD l at 0 % 2) 1 ∷ leb 1 (nameLength l at) ∷ leb (nameLength l at) 25 ∷ sel (nameAt l at) r ∷ [])
 
-module _ (π : Partition) (l : List ℕ) where
-  -- a directory by its file type
-  unfoldable pub isDirectory : ℕ → Bool
-  isDirectory f = eqb (view l f fileTypeAt) 3
+-- f is a directory by its file type
+unfoldable pub isDirectory : List ℕ → ℕ → Bool
+isDirectory l f = eqb (view l f fileTypeAt) 3
 
+module _ (π : Partition) (l : List ℕ) where
   -- the file that x is the LDA of
   unfoldable pub fileAt : ℕ → Found
   fileAt x = let t = ldaBlock (π .drive) x in pick (both (isLda π x t) (isFile π (view l) t)) (At t) Nothing
@@ -99,7 +99,7 @@ module _ (π : Partition) (l : List ℕ) where
 
   -- what an entry with this target is
   abbrev pub metTarget : Found → Met
-  metTarget (At t) = Taken (pick (isDirectory t) 1 0) t
+  metTarget (At t) = Taken (pick (isDirectory l t) 1 0) t
   metTarget Nothing = Taken 2 0
 
   -- where entry j of directory f stands, the entries counted through its blocks
@@ -131,11 +131,11 @@ follow k t true false = Absent
 follow k t false dir = File t
 
 -- the rest of a path, if there is more of it, in what its first part came to
-abbrev pub onward : Partition → List ℕ → (ℕ → Looked) → Bool → Looked → Looked
-onward π l k more (File t) = follow k t more (isDirectory π l t)
-onward π l k more Dangling = pick more Absent Dangling
-onward π l k more Absent = Absent
-onward π l k more (Beyond f) = Beyond f
+abbrev pub onward : List ℕ → (ℕ → Looked) → Bool → Looked → Looked
+onward l k more (File t) = follow k t more (isDirectory l t)
+onward l k more Dangling = pick more Absent Dangling
+onward l k more Absent = Absent
+onward l k more (Beyond f) = Beyond f
 
 module _ (π : Partition) (l : List ℕ) (sel : Selection) where
   -- entry j of f is taken and has the name
@@ -159,7 +159,7 @@ module _ (π : Partition) (l : List ℕ) (sel : Selection) where
   look zero path p f = Beyond f
   look (suc d) path p f =
       let q = partEnd path p (length path - p) in
-      onward π l (look d path (q + 1)) (ltb q (length path)) (entered (take (q - p) (drop p path)) f)
+      onward l (look d path (q + 1)) (ltb q (length path)) (entered (take (q - p) (drop p path)) f)
 
   -- a path from the root down, which is the first of nine levels; the empty path is the root
   unfoldable pub lookFrom : ℕ → List ℕ → Looked
@@ -176,16 +176,16 @@ pub data Item : Type 0 where
 unfoldable pub rowOf : ℕ → ℕ → ℕ → List ℕ → List ℕ
 rowOf t level what x = (t % 256 ∷ t / 256 % 256 ∷ t / 65536 % 256 ∷ t / 16777216 % 256 ∷ level ∷ what ∷ length x ∷ []) ++ (x ++ replicate (25 - length x) 0)
 
-module _ (π : Partition) (l : List ℕ) (sel : Selection) where
-  -- an entry, which stands at `at`: its row, and below a directory what lies in that
-  abbrev pub itemsOf : (ℕ → List Item) → ℕ → ℕ → Met → List Item
-  itemsOf below level at Skip = []
-  itemsOf below level at (Taken what t) = row (rowOf t level what (nameAt l at)) ∷ pick (eqb what 1) (below t) []
+-- an entry, which stands at `at`: its row, and behind that of a directory what lies in it
+abbrev pub itemsOf : List ℕ → (ℕ → List Item) → ℕ → ℕ → Met → List Item
+itemsOf l below level at Skip = []
+itemsOf l below level at (Taken what t) = row (rowOf t level what (nameAt l at)) ∷ pick (eqb what 1) (below t) []
 
+module _ (π : Partition) (l : List ℕ) (sel : Selection) where
   -- the c entries of f from j on
   unfoldable pub entries : (ℕ → List Item) → ℕ → ℕ → ℕ → ℕ → List Item
   entries below level f j zero = []
-  entries below level f j (suc c) = itemsOf below level (placeOf π l f j) (metAt π l sel f j) ++ entries below level f (j + 1) c
+  entries below level f j (suc c) = itemsOf l below level (placeOf π l f j) (metAt π l sel f j) ++ entries below level f (j + 1) c
 
   -- directory f with d levels left, this one counted: of nine, the root's entries have level 1
   unfoldable pub tree : ℕ → ℕ → List Item

@@ -177,9 +177,9 @@ file-at π l x t h = go (both (isLda π x b) (isFile π (view l) b)) refl
     go false q = let z = rw (q, fileAt) at h in cc
 
 -- the code's test of the file type
-pub directory-as : (π : Partition) (l : List ℕ) (f i : ℕ) → i ≡ view l f fileTypeAt → eqb i 3 ≡ isDirectory π l f
+pub directory-as : (l : List ℕ) (f i : ℕ) → i ≡ view l f fileTypeAt → eqb i 3 ≡ isDirectory l f
 unfolding isDirectory
-directory-as π l f i q = ap (λ (z : ℕ). eqb z 3) q
+directory-as l f i q = ap (λ (z : ℕ). eqb z 3) q
 
 -- ---- what an entry is
 
@@ -195,10 +195,10 @@ module _ (π : Partition) (l : List ℕ) (sel : Selection) (f j b : ℕ) (q : b 
   pub met-dangling : (x : Found) (w : ℕ) → a ≡ true → w ≡ pair (view l) b (9 + 16 * (j % 16)) → x ≡ fileAt π l w → x ≡ Nothing → Taken 2 0 ≡ metAt π l sel f j
   met-dangling x w h u k y = rw y at (is-met x w h u k)
 
-  pub met-directory : (x : Found) (w t : ℕ) (i : Bool) → a ≡ true → w ≡ pair (view l) b (9 + 16 * (j % 16)) → x ≡ fileAt π l w → x ≡ At t → i ≡ isDirectory π l t → i ≡ true → Taken 1 t ≡ metAt π l sel f j
+  pub met-directory : (x : Found) (w t : ℕ) (i : Bool) → a ≡ true → w ≡ pair (view l) b (9 + 16 * (j % 16)) → x ≡ fileAt π l w → x ≡ At t → i ≡ isDirectory l t → i ≡ true → Taken 1 t ≡ metAt π l sel f j
   met-directory x w t i h u k y v c = rw (← v, c) at (rw y at (is-met x w h u k))
 
-  pub met-file : (x : Found) (w t : ℕ) (i : Bool) → a ≡ true → w ≡ pair (view l) b (9 + 16 * (j % 16)) → x ≡ fileAt π l w → x ≡ At t → i ≡ isDirectory π l t → i ≡ false → Taken 0 t ≡ metAt π l sel f j
+  pub met-file : (x : Found) (w t : ℕ) (i : Bool) → a ≡ true → w ≡ pair (view l) b (9 + 16 * (j % 16)) → x ≡ fileAt π l w → x ≡ At t → i ≡ isDirectory l t → i ≡ false → Taken 0 t ≡ metAt π l sel f j
   met-file x w t i h u k y v c = rw (← v, c) at (rw y at (is-met x w h u k))
 
 pub ruleset mets = (met-skip, met-dangling, met-directory, met-file, not-true, not-false, needs)
@@ -235,5 +235,5 @@ module _ (π : Partition) (l : List ℕ) (sel : Selection) (f j what t : ℕ) (h
       kind false = omega arith
 
       go : (x : Found) → metTarget π l x ≡ Taken what t → what ≤ 2
-      go (At y) q = let k : pick (isDirectory π l y) 1 0 ≡ what = cc in rw (← k) (kind (isDirectory π l y))
+      go (At y) q = let k : pick (isDirectory l y) 1 0 ≡ what = cc in rw (← k) (kind (isDirectory l y))
       go Nothing q = let k : 2 ≡ what = cc in omega arith

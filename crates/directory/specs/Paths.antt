@@ -150,7 +150,7 @@ module _ {π : Partition} {l : List ℕ} {sel : Selection} {path : List ℕ} {i 
   look-beyond h = let z : 9 - i ≡ zero = omega arith in rw z at (s .left)
 
   module _ {q : ℕ} {x : Looked} (h : i < 9) (z : q ≡ partEnd path p (length path - p)) (y : x ≡ entered π l sel (take (q - p) (drop p path)) f) where
-    step : onward π l (look π l sel (9 - (i + 1)) path (q + 1)) (ltb q (length path)) x ≡ w
+    step : onward l (look π l sel (9 - (i + 1)) path (q + 1)) (ltb q (length path)) x ≡ w
     unfolding look
     step = let d : 9 - i ≡ suc (9 - (i + 1)) = omega arith in rw (y, z) (sym (ap (λ (d : ℕ). look π l sel d path p f) d) ∙ s .left)
 
@@ -166,19 +166,19 @@ module _ {π : Partition} {l : List ℕ} {sel : Selection} {path : List ℕ} {i 
     pub look-dangling-on : x ≡ Dangling → q < length path → Absent ≡ w
     look-dangling-on c r = rw (c, lt-ltb q (length path) r) at step
 
-    onto : (t : ℕ) (u v : Bool) → x ≡ File t → ltb q (length path) ≡ u → isDirectory π l t ≡ v → follow (look π l sel (9 - (i + 1)) path (q + 1)) t u v ≡ w
+    onto : (t : ℕ) (u v : Bool) → x ≡ File t → ltb q (length path) ≡ u → isDirectory l t ≡ v → follow (look π l sel (9 - (i + 1)) path (q + 1)) t u v ≡ w
     onto t u v c a b =
         let k = look π l sel (9 - (i + 1)) path (q + 1) in
-        sym (ap (onward π l k (ltb q (length path))) c ∙ ap₂ (λ (u v : Bool). follow k t u v) a b) ∙ step
+        sym (ap (onward l k (ltb q (length path))) c ∙ ap₂ (λ (u v : Bool). follow k t u v) a b) ∙ step
 
     module _ {t : ℕ} (c : x ≡ File t) where
       pub look-file : length path ≤ q → File t ≡ w
-      look-file r = onto t false (isDirectory π l t) c (le-ltb q (length path) r) refl
+      look-file r = onto t false (isDirectory l t) c (le-ltb q (length path) r) refl
 
-      pub look-plain : {v : Bool} → q < length path → v ≡ isDirectory π l t → v ≡ false → Absent ≡ w
+      pub look-plain : {v : Bool} → q < length path → v ≡ isDirectory l t → v ≡ false → Absent ≡ w
       look-plain r a b = onto t true false c (lt-ltb q (length path) r) (sym a ∙ b)
 
-      pub look-next : {v : Bool} → q < length path → v ≡ isDirectory π l t → v ≡ true → Looking π l sel path (i + 1) (q + 1) t w
+      pub look-next : {v : Bool} → q < length path → v ≡ isDirectory l t → v ≡ true → Looking π l sel path (i + 1) (q + 1) t w
       look-next r a b =
           record { left = onto t true true c (lt-ltb q (length path) r) (sym a ∙ b); file = entered-file π l sel _ f t (sym y ∙ c); low = omega arith; few = omega arith }
 
@@ -196,7 +196,7 @@ file-in π l f h = candidate-in π (view l) f (both-left _ _ h) .1
 
 module _ (π : Partition) (l : List ℕ) (sel : Selection) (path : List ℕ) where
   onward-in : (k : ℕ → Looked) (more : Bool) (x : Looked) → ((t : ℕ) → isFile π (view l) t ≡ true → LookedIn (π .e) (k t)) → ((t : ℕ) → x ≡ File t → isFile π (view l) t ≡ true)
-      → LookedIn (π .e) x → LookedIn (π .e) (onward π l k more x)
+      → LookedIn (π .e) x → LookedIn (π .e) (onward l k more x)
   onward-in k more Dangling h g i = go more
     where
       go : (u : Bool) → LookedIn (π .e) (pick u Absent Dangling)
@@ -204,7 +204,7 @@ module _ (π : Partition) (l : List ℕ) (sel : Selection) (path : List ℕ) whe
       go false = tt
   onward-in k more Absent h g i = tt
   onward-in k more (Beyond f) h g i = i
-  onward-in k more (File t) h g i = go more (isDirectory π l t)
+  onward-in k more (File t) h g i = go more (isDirectory l t)
     where
       go : (u v : Bool) → LookedIn (π .e) (follow k t u v)
       go true true = h t (g t refl)

@@ -156,9 +156,9 @@ pub fn root(img: &[u8], drive: usize, s: usize, e: usize) -> Found
 }
 
 // Whether f is a directory by its file type.
-pub fn is_directory(img: &[u8], drive: usize, s: usize, e: usize, f: usize) -> bool
+pub fn is_directory(img: &[u8], f: usize) -> bool
     requires { ⌜ 528 * f + 528 ≤ length (now img) ⌝ }
-    ensures { λ r. ⌜ r ≡ isDirectory (partitionOf drive s e) (now (img .entry)) f ⌝ }
+    ensures { λ r. ⌜ r ≡ isDirectory (now (img .entry)) f ⌝ }
 {
     image::word(img, f, FILE_TYPE) == DIRECTORY
 }
@@ -187,7 +187,7 @@ pub fn met(
     let x = file_at(img, drive, s, e, image::pair(img, b, TARGET + 16 * i));
     match x {
         Found::At(t) => {
-            if is_directory(img, drive, s, e, t) {
+            if is_directory(img, t) {
                 Met::Taken(1, t)
             } else {
                 Met::Taken(0, t)

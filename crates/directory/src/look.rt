@@ -78,7 +78,7 @@ fn look(
                 if n <= q {
                     return Looked::File(t);
                 }
-                if !entry::is_directory(img, drive, s, e, t) {
+                if !entry::is_directory(img, t) {
                     return Looked::Absent;
                 }
                 f = t;

@@ -65,10 +65,10 @@ pub name-short : (l : List ℕ) (at : ℕ) → nameLength l at ≤ 25 → length
 name-short l at h = rw length-take (le-trans (min-le-left (nameLength l at) (length (drop (at + 7) l))) h)
 
 module _ (π : Partition) (l : List ℕ) (sel : Selection) where
-  items-sized : (below : ℕ → List Item) (level f j : ℕ) → ((t : ℕ) → isFile π (view l) t ≡ true → Sized (π .e) (below t)) → Sized (π .e) (itemsOf π l sel below level (placeOf π l f j) (metAt π l sel f j))
+  items-sized : (below : ℕ → List Item) (level f j : ℕ) → ((t : ℕ) → isFile π (view l) t ≡ true → Sized (π .e) (below t)) → Sized (π .e) (itemsOf l below level (placeOf π l f j) (metAt π l sel f j))
   items-sized below level f j h = go (metAt π l sel f j) refl
     where
-      go : (m : Met) → metAt π l sel f j ≡ m → Sized (π .e) (itemsOf π l sel below level (placeOf π l f j) m)
+      go : (m : Met) → metAt π l sel f j ≡ m → Sized (π .e) (itemsOf l below level (placeOf π l f j) m)
       go Skip q = tt
       go (Taken what t) q = (row-long t level what _ (name-short l _ (met-short π l sel f j what t q)), down (eqb what 1) refl)
         where
@@ -79,7 +79,7 @@ module _ (π : Partition) (l : List ℕ) (sel : Selection) where
   entries-sized : (below : ℕ → List Item) (level f j c : ℕ) → ((t : ℕ) → isFile π (view l) t ≡ true → Sized (π .e) (below t)) → Sized (π .e) (entries π l sel below level f j c)
   unfolding entries
   entries-sized below level f j zero h = tt
-  entries-sized below level f j (suc c) h = sized-append (π .e) (itemsOf π l sel below level (placeOf π l f j) (metAt π l sel f j)) (entries π l sel below level f (j + 1) c) (items-sized below level f j h) (entries-sized below level f (j + 1) c h)
+  entries-sized below level f j (suc c) h = sized-append (π .e) (itemsOf l below level (placeOf π l f j) (metAt π l sel f j)) (entries π l sel below level f (j + 1) c) (items-sized below level f j h) (entries-sized below level f (j + 1) c h)
 
   pub tree-sized : (d f : ℕ) → isFile π (view l) f ≡ true → Sized (π .e) (tree π l sel d f)
   unfolding tree

@@ -146,7 +146,7 @@ module _ {m : ℕ} {on : Bool} {size : ℕ} {final : List ℕ} {w : Walk} (π : 
     walk-ends h = leaves-none (rw (none h, entries) at s)
 
     module _ {x : Met} (h : j < k) (q : x ≡ metAt π l sel f j) where
-      met-next : Leaves m on size final w (itemsOf π l sel below level (placeOf π l f j) x ++ entries π l sel below level f (j + 1) (k - (j + 1))) n b
+      met-next : Leaves m on size final w (itemsOf l below level (placeOf π l f j) x ++ entries π l sel below level f (j + 1) (k - (j + 1))) n b
       unfolding entries
       met-next = rw q (rw (more h, entries) at s)
 

@@ -4,7 +4,7 @@ use Rattle.directory.proofs.entry.is_directory.Statement.{statement}
 use Rattle.directory.proofs.entry.is_directory.Tie as tie
 
 returns : tie.Need-returns
-returns c = directory-as _ _ _ _ (c .word .ensures .0)
+returns c = directory-as _ _ _ (c .word .ensures .0)
 
 pub is-directory-spec : {M : Type 1} → statement M
 is-directory-spec = tie.close (tie.spec (λ c κs. search needs) returns)
