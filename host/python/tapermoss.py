@@ -281,6 +281,10 @@ def call(name: str, *arguments: Union[int, Readable], writable: Container[int] =
     """Makes a call of include/perq.h as it is; answers its Answer. An object with bytes stands for an address and a
     length; those at the places in `writable` are lent to be changed."""
     function = _function(name)
+    # Each address has its length behind it, and the two are one argument.
+    wanted = len(function.argtypes) - function.argtypes.count(ctypes.c_void_p)
+    if len(arguments) != wanted:
+        raise TypeError(f'{name} takes {wanted} arguments, an object with bytes counting as one, not {len(arguments)}')
     with contextlib.ExitStack() as stack:
         passed: list[Optional[int]] = []
         for place, argument in enumerate(arguments):
@@ -421,6 +425,7 @@ def whole_file(image: Readable, drive: int, s: int, f: int) -> bytearray:
 def look_up(image: Readable, drive: int, s: int, path: Union[Readable, str], rule: Readable = b'') -> Optional[Target]:
     """What a path leads to from the partition's root directory, or None if it is not there. A path is names joined by
     `>`, compared without case; the empty one is the root. A str must be ASCII; a name with other bytes is given as bytes.
+    The rule comes last, so that it can be left out; in C and in Rust it stands before the path.
 
         target = look_up(image, Drive.FLOPPY, 1, 'Mail>Memo')
         if target is None:

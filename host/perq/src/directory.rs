@@ -5,11 +5,11 @@ use crate::{raw, Drive, Refusal};
 
 /// The bytes of a row of [`raw::tree`].
 pub const ROW: usize = 32;
+/// What joins the names of a path. A name on the disk may have it too, and then no path leads to its entry.
+pub const JOINT: u8 = b'>';
 
 /// The letters of the longest name.
 const LONGEST: usize = 25;
-/// What joins the names of a path.
-const JOINT: u8 = b'>';
 /// How many rows are asked for first.
 const FIRST_ROWS: usize = 64;
 

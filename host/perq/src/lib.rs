@@ -38,7 +38,7 @@ pub use address::{
 #[cfg(feature = "changing")]
 pub use changing::{blank, create, describe, destroy, repair, write, Created, ALL};
 #[cfg(feature = "reading")]
-pub use directory::{look_up, tree, Row, Rule, Target, Tree, What, ROW};
+pub use directory::{look_up, tree, Row, Rule, Target, Tree, What, JOINT, ROW};
 pub use drive::Drive;
 #[cfg(feature = "reading")]
 pub use reading::{

@@ -1,20 +1,20 @@
-//! Directories: look_up and tree on random trees, sound and damaged, as the reference has them.
+//! Directories: look_up and tree on random trees, sound and damaged, as the reference has them. Broken paths, and what tree
+//! lists looked up again, are in directory_paths.rs.
 #![cfg(feature = "reading")]
 
-use perq::{Drive, Row, Rule, Target};
-use reference::directory::{DIRECTORY, HASHES, JOINT};
-use reference::random_tree::{random_path, recased};
+use perq::Rule;
+use reference::directory::{DIRECTORY, HASHES};
+use reference::random_tree::random_path;
 use reference::sample::Rng;
 use reference::tree::ROW;
-use reference::tree_sample::{set_root, Names, Stand, Tree};
+use reference::tree_sample::{set_root, Line, Names, Stand, Tree};
 use reference::DONE;
-use std::collections::HashSet;
 use trials::both::Both;
 use trials::call::{Call, Name};
 use trials::damage::{self, Field};
 use trials::draw::{self, candidates};
 use trials::images::Place;
-use trials::settings::{cases, long_run, rng};
+use trials::settings::{cases, long_run, rng, rounds};
 use trials::sweep;
 use trials::tally::{is_refusal, Tally};
 use trials::trees::{some_tree, tree_of, Planted};
@@ -28,13 +28,29 @@ struct Seen {
     wrong_block: u32,
     /// Lines that name their own directory or one that stands before it in the tree.
     circles: u32,
-    /// Trees by how many directories stand one in the other, at most 11.
-    levels: [u32; 12],
+    /// Trees by how many directories stand one in the other, at most 11 and two side directories.
+    levels: [u32; 14],
+}
+
+/// How many directories stand one in the other: the root, and as long as a good line of one names the node after it, that one.
+fn levels(tree: &Tree) -> usize {
+    let rule = Rule::from_bytes(&tree.rule).expect("a rule");
+    let names_next = |i: usize| {
+        let good = |line: &Line, r: u32| {
+            line.flags % 2 == 1
+                && usize::from(line.length) == line.name.len()
+                && rule.hash(&line.name).is_none_or(|hash| u32::from(hash) == r % HASHES)
+        };
+        let mut lines = tree.nodes[i].lines.iter().zip(tree.places(i));
+        tree.nodes[i + 1].sort == DIRECTORY
+            && lines.any(|(line, (r, _))| line.names == Names::Node(i + 1) && good(line, r))
+    };
+    1 + (0..tree.nodes.len() - 1).take_while(|&i| names_next(i)).count()
 }
 
 impl Seen {
-    fn add(&mut self, tree: &Tree, levels: u32) {
-        self.levels[levels as usize] += 1;
+    fn add(&mut self, tree: &Tree) {
+        self.levels[levels(tree)] += 1;
         for (i, node) in tree.nodes.iter().enumerate().filter(|(_, node)| node.sort == DIRECTORY) {
             let places = tree.places(i);
             for (line, (r, _)) in node.lines.iter().zip(places) {
@@ -48,7 +64,7 @@ impl Seen {
 
     fn must_have_all(&self) {
         let kinds = [self.overflow, self.wrong_block, self.circles];
-        assert!(kinds.iter().chain(&self.levels[8..]).all(|&count| count > 0), "{self:?}");
+        assert!(kinds.iter().chain(&self.levels[8..=11]).all(|&count| count > 0), "{self:?}");
     }
 }
 
@@ -80,9 +96,8 @@ fn move_root(planted: &mut Planted, rng: &mut Rng) {
 fn random_trees() {
     let (mut rng, mut tally, mut seen) = (rng(50), Tally::default(), Seen::default());
     for _ in 0..cases(40_000) / 20 {
-        let levels = 1 + rng.below(11);
-        let mut planted = tree_of(levels, &mut rng);
-        seen.add(&planted.tree, levels);
+        let mut planted = tree_of(1 + rng.below(11), &mut rng);
+        seen.add(&planted.tree);
         if rng.below(10) == 0 {
             move_root(&mut planted, &mut rng);
         }
@@ -152,7 +167,7 @@ fn all_rows(both: &mut Both, place: &Place, rule: &[u8]) -> Option<Vec<u8>> {
 #[test]
 fn every_number_of_rows() {
     let (mut rng, mut trees) = (rng(53), 0);
-    for _ in 0..cases(2_000) / 100 {
+    for _ in 0..rounds(2_000, 100) {
         let Planted { tree, place, image } = tree_of(4, &mut rng);
         let mut both = Both::new(image);
         let Some(all) = all_rows(&mut both, &place, &tree.rule) else {
@@ -169,7 +184,7 @@ fn every_number_of_rows() {
             assert!(rows[ROW * filled..].iter().all(|&byte| byte == 0xEE));
         }
     }
-    assert!(trees > 0, "a tree of four levels that ends");
+    assert!(trees > 10, "{trees} trees of four levels that end");
 }
 
 #[test]
@@ -189,79 +204,15 @@ fn rules_and_rows_of_every_length() {
     }
 }
 
-/// Paths made out of one that may be there: in other cases, broken at every place, and far too long.
-fn spoilt(path: &[u8], rng: &mut Rng) -> Vec<Vec<u8>> {
-    let mut paths = vec![recased(rng, path), [path, path].concat(), [path, &[0; 300]].concat()];
-    paths.push(vec![path; 1_000].join(&JOINT));
-    paths.push(vec![JOINT; 5_000]);
-    for at in 0..=path.len() {
-        paths.push(path[..at].to_vec());
-        for byte in [JOINT, b'a', 0, 0xE1] {
-            paths.push([&path[..at], &[byte], &path[at..]].concat());
-        }
-    }
-    paths
-}
-
-#[test]
-fn broken_and_long_paths() {
-    let mut rng = rng(55);
-    for _ in 0..cases(2_000) / 100 {
-        let Planted { tree, place, image } = some_tree(&mut rng);
-        let (path, mut both) = (random_path(&mut rng, &tree), Both::new(image));
-        for path in spoilt(&path, &mut rng) {
-            both.call(&place.call(Name::LookUp).with_rule(&tree.rule).with_path(&path));
-        }
-    }
-}
-
-/// Whether a path leads to each row in turn: no name on it has a joint or stands in its directory before.
-fn findable(rows: &[Row]) -> Vec<bool> {
-    let (mut met, mut above) = (HashSet::new(), Vec::new());
-    let row = |row: &Row| {
-        above.truncate(row.level as usize - 1);
-        let fine = above.last().copied().unwrap_or(true) && !row.name.contains(&JOINT);
-        let first = fine && met.insert(row.path.to_ascii_uppercase());
-        above.push(first);
-        first
-    };
-    rows.iter().map(row).collect()
-}
-
-/// What the library lists, the library finds.
-#[test]
-fn every_row_is_where_its_path_leads() {
-    let (mut rng, mut found) = (rng(57), 0);
-    for _ in 0..cases(40_000) / 40 {
-        let Planted { tree, place, image } = some_tree(&mut rng);
-        let rule = Rule::from_bytes(&tree.rule).expect("a rule");
-        let drive = Drive::from_number(place.drive).expect("a drive");
-        let rows = match perq::tree(&image, drive, place.s, &rule, 5_000) {
-            Ok(tree) => tree.rows,
-            Err(refusal) => {
-                assert_eq!(refusal.number(), 11);
-                continue;
-            }
-        };
-        for (row, _) in rows.iter().zip(findable(&rows)).filter(|(_, findable)| *findable) {
-            let target = row.target.map_or(Target::Dangling, Target::File);
-            let led = perq::look_up(&image, drive, place.s, &rule, &row.path);
-            assert_eq!(led, Ok(Some(target)), "{}", row.path.escape_ascii());
-            found += 1;
-        }
-    }
-    assert!(found > 0, "rows that a path leads to");
-}
-
 /// 11 is given after every other number.
 #[test]
 fn the_tenth_level_is_the_last_refusal() {
     let mut rng = rng(56);
-    let deep = std::iter::repeat_with(|| tree_of(11, &mut rng)).find(|planted| {
+    let deep = std::iter::repeat_with(|| tree_of(11, &mut rng)).take(1_000).find(|planted| {
         let mut both = Both::new(planted.image.clone());
         all_rows(&mut both, &planted.place, &[]).is_none()
     });
-    let Planted { place, image, .. } = deep.expect("the search goes on until there is one");
+    let Planted { place, image, .. } = deep.expect("one tree of 1,000 that meets the tenth level");
     let call = place.call(Name::Tree).with_buffer(&[7; 10_000 * ROW]);
     let number = |image: &[u8], call: Call| Both::new(image.to_vec()).call(&call).number;
     assert_eq!(number(&image, call.clone()), 11);

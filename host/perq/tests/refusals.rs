@@ -11,7 +11,7 @@ use trials::images::{pair, set_pair, set_word, word, Place, DATA_WORD};
 use trials::tally::{is_refusal, refusals};
 
 /// A full partition: file 2 of 64 blocks, file 3 without any, one free block. File 2 is the root directory; what stands in
-/// it are random bytes.
+/// it are random bytes, but for 11.
 const PLACE: Place = Place { drive: 3, n: 70, s: 1, e: 68 };
 const FILE: u32 = 2;
 
@@ -47,7 +47,41 @@ fn right_length(name: Name, blocks: usize) -> usize {
     }
 }
 
-/// Brings about the cause of a refusal; causes can be brought about together.
+/// What brings a refusal about: the cause of its number, or for 3 the hash rule's length instead of the buffer's.
+#[derive(Clone, Copy, Debug, PartialEq, Eq)]
+enum Cause {
+    Number(u32),
+    Rule,
+}
+
+impl Cause {
+    fn number(self) -> u32 {
+        match self {
+            Cause::Number(number) => number,
+            Cause::Rule => 3,
+        }
+    }
+
+    /// Brings it about; causes can be brought about together.
+    fn bring_about(self, image: &mut [u8], call: &mut Call) {
+        match self {
+            Cause::Number(number) => cause(number, image, call),
+            Cause::Rule => call.rule.push(0),
+        }
+    }
+}
+
+/// The causes of a call's refusals in the order in which they are looked for. 9 has a test of its own.
+fn causes(name: Name) -> Vec<Cause> {
+    let of = |&number: &u32| match (number, name) {
+        (9, _) => vec![],
+        (3, Name::LookUp) => vec![Cause::Rule],
+        (3, Name::Tree) => vec![Cause::Rule, Cause::Number(3)],
+        _ => vec![Cause::Number(number)],
+    };
+    refusals(name).iter().flat_map(of).collect()
+}
+
 fn cause(number: u32, image: &mut [u8], call: &mut Call) {
     match number {
         1 => call.drive = 4,
@@ -55,7 +89,6 @@ fn cause(number: u32, image: &mut [u8], call: &mut Call) {
             let start = pair(image, PLACE.s, DATA_WORD + 118);
             set_pair(image, PLACE.s, DATA_WORD + 118, start + 256);
         }
-        3 if call.name == Name::LookUp => call.rule.push(0),
         3 => call.buffer.push(0),
         4 => {
             // Blocks in use is one too many; in the other file too, so that the lowest is named.
@@ -73,26 +106,43 @@ fn cause(number: u32, image: &mut [u8], call: &mut Call) {
         7 => call.r = 4_160,
         8 if call.name == Name::Write && call.r == 0 => call.r = 64,
         8 => {}
+        11 => {
+            name_itself(image);
+            call.path = b"D>D>D>D>D>D>D>D>D>D".to_vec();
+        }
         _ => unreachable!("{number} has a test of its own"),
     }
 }
 
+/// The first entry of file 2 becomes D, which names file 2, a directory: nine rows go down to the tenth level, and so do ten
+/// names.
+fn name_itself(image: &mut [u8]) {
+    set_word(image, FILE, DATA_WORD + 8, 3);
+    let first = reference::lda_to_lbn(PLACE.drive, pair(image, FILE, DATA_WORD + 52)).a;
+    set_word(image, first, DATA_WORD, 1);
+    set_pair(image, first, DATA_WORD + 1, PLACE.lda(FILE));
+    set_word(image, first, DATA_WORD + 3, u16::from_le_bytes([1, b'D']));
+}
+
 /// The call with these causes, on an image that has just one free block if 8 is among them.
-fn answer_under(name: Name, causes: &[u32]) -> (Both, Call) {
-    let mut image = if causes.contains(&8) { full_image() } else { roomy_image() };
+fn answer_under(name: Name, causes: &[Cause]) -> (Both, Call) {
+    let full = causes.contains(&Cause::Number(8));
+    let mut image = if full { full_image() } else { roomy_image() };
     let mut call = fine(name, &image);
-    for &number in causes {
-        cause(number, &mut image, &mut call);
+    for cause in causes {
+        cause.bring_about(&mut image, &mut call);
     }
     (Both::new(image), call)
 }
 
-fn must_refuse(name: Name, causes: &[u32], number: u32) {
+/// The call is refused by the first of these causes.
+fn must_refuse(name: Name, causes: &[Cause]) {
+    let number = causes[0].number();
     let (mut both, call) = answer_under(name, causes);
     let before = both.image().to_vec();
     let (answer, buffer) = both.call_with(&call, &[]);
     assert!(is_refusal(answer, number), "{name:?} under {causes:?}: {answer:?}");
-    assert_eq!(answer.block, if number == 4 { FILE } else { 0 });
+    assert_eq!(answer.block, if [4, 11].contains(&number) { FILE } else { 0 });
     assert_eq!(answer.made, 0);
     assert!(
         both.image() == before && buffer == call.buffer,
@@ -116,8 +166,8 @@ fn nothing_is_refused_when_all_is_well() {
 #[test]
 fn each_refusal_by_itself() {
     for name in exported() {
-        for &number in refusals(name).iter().filter(|&&number| number < 9) {
-            must_refuse(name, &[number], number);
+        for cause in causes(name) {
+            must_refuse(name, &[cause]);
         }
     }
 }
@@ -125,11 +175,11 @@ fn each_refusal_by_itself() {
 #[test]
 fn each_refusal_before_every_later_one() {
     for name in exported() {
-        let order: Vec<u32> = refusals(name).iter().copied().filter(|&number| number < 9).collect();
+        let order = causes(name);
         for (i, &first) in order.iter().enumerate() {
-            must_refuse(name, &order[i..], first);
+            must_refuse(name, &order[i..]);
             for &later in &order[i + 1..] {
-                must_refuse(name, &[first, later], first);
+                must_refuse(name, &[first, later]);
             }
         }
     }

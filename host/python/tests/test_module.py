@@ -1,4 +1,5 @@
-"""The module as a whole: refusals that are copied, the names and their type hints, and a library that is not there."""
+"""The module as a whole: refusals that are copied, the names and their type hints, how many arguments a call takes, and a
+library that is not there."""
 import ast
 import concurrent.futures
 import copy
@@ -106,6 +107,25 @@ class Names(unittest.TestCase):
         for call in (tapermoss.look_up, tapermoss.tree):
             hints = typing.get_type_hints(call)
             self.assertEqual((hints['image'], hints['rule']), (tapermoss.Readable, tapermoss.Readable))
+
+
+class Arguments(unittest.TestCase):
+    def test_too_many_or_too_few_are_a_type_error(self):
+        asked = {'lbn_to_pda': [0, 0], 'check': [b'', 0, 1], 'show_pair': [b'', b'', 0, 1, 2, 0],
+                 'tree': [b'', 0, 1, b'', bytearray()], 'write': [bytearray(), 0, 1, 2, 0, b'', 9]}
+        for name, arguments in asked.items():
+            right = len(arguments)
+            for wrong in (arguments + [0], arguments + [b''], arguments + [0] * 9, arguments[:-1], []):
+                with self.subTest(call=name, count=len(wrong)), self.assertRaises(TypeError) as caught:
+                    tapermoss.call(name, *wrong)
+                sentence = f'{name} takes {right} arguments, an object with bytes counting as one, not {len(wrong)}'
+                self.assertEqual(str(caught.exception), sentence)
+
+    def test_the_right_number_is_taken(self):
+        self.assertEqual(tapermoss.call('lbn_to_pda', 0, 0).outcome, 0)
+        with self.assertRaises(TypeError) as caught:
+            tapermoss.call('lbn_to_pda', 0, b'0')
+        self.assertEqual(str(caught.exception), 'a number is wanted, not bytes')
 
 
 FIRST_CALL = '''

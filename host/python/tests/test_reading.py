@@ -112,9 +112,3 @@ class Reading(unittest.TestCase):
         image[RECORD * 2 + 16:RECORD * 2 + 16 + 104] = bytes(range(104))
         self.assertEqual(tapermoss.description(image, DRIVE, 1, 2), bytes(range(104)))
         self.refused(6, tapermoss.description, image, DRIVE, 1, 3)
-
-
-def load_tests(loader, tests, pattern):
-    """Directories are read too: their tests come with these."""
-    tests.addTests(loader.loadTestsFromName(f'{__package__}.test_directories'))
-    return tests

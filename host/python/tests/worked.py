@@ -7,8 +7,9 @@ import tapermoss
 
 FOLDER = os.path.join(os.path.dirname(__file__), '..', '..', '..', 'tests', 'worked')
 BASE, REQUEST_1 = (os.path.join(FOLDER, name) for name in ('base.txt', 'request-1.txt'))
-#: The calls whose buffer is filled, and those that change the image.
+#: The calls whose buffer is filled, those of them whose buffer's sum stands in a case, and those that change the image.
 FILLS = {'read', 'description', 'extract', 'tree'}
+SUMMED = {'read', 'description', 'tree'}
 CHANGES = {'create', 'write', 'describe', 'destroy', 'repair'}
 
 
@@ -33,11 +34,14 @@ class Call(NamedTuple):
 
 def cases(path):
     """Each case as its number, an image of zeros, and its puts and calls in their order."""
+    steps = None
     with open(path) as file:
         for line in file:
             words = line.split()
             if not words or words[0].startswith('#'):
                 continue
+            if (words[0] == 'case') == (steps is not None):
+                raise ValueError(f'{path} has a line that is not between a case and its end, or a case that is: {line}')
             if words[0] == 'case':
                 number, image, steps = int(words[1]), bytearray(tapermoss.RECORD * int(words[5])), []
             elif words[0] == 'put':
@@ -48,12 +52,17 @@ def cases(path):
                 steps[-1].rows.append((*map(int, words[1:4]), bytes.fromhex(words[4])))
             elif words[0] == 'end':
                 yield number, image, steps
+                steps = None
             else:
                 raise ValueError(f'{path} has a line of no known kind: {line}')
+    if steps is not None:
+        raise ValueError(f'{path} has a case without an end: {number}')
 
 
 def one_call(line):
     found = re.fullmatch(r'call (\w+) (.*?) ?-> ((?:\d+ ){7})image (\w+)(?: buffer (\w+))?\s*', line)
+    if not found or (found.group(1) in SUMMED) != (found.group(5) is not None):
+        raise ValueError(f'a call is not whole: {line}')
     name, arguments, answer, image_sum, buffer_sum = found.groups()
     answer = tuple(int(word) for word in answer.split())
     sums = int(image_sum, 16), None if buffer_sum is None else int(buffer_sum, 16)

@@ -7,6 +7,7 @@ use reference::random_tree::{random_path, random_tree};
 use reference::sample::Rng;
 use reference::tree_sample::{plant, Line, Names, Tree};
 use reference::*;
+use std::collections::HashSet;
 
 /// A tree with the place of its partition.
 struct Planted {
@@ -182,52 +183,85 @@ fn listed(made: &Planted, room: usize) -> Vec<(Vec<u8>, Vec<u8>)> {
     rows
 }
 
-/// Look up finds what tree lists, but where an equal name before it, or a '>' in a name, hides it.
+/// Whether look up finds each row in turn by its path: it does if it finds the directory, the name has
+/// no '>', and no row before it has the same name, without case, in the same directory.
+fn findable(rows: &[(Vec<u8>, Vec<u8>)]) -> Vec<bool> {
+    let (mut met, mut above) = (HashSet::new(), Vec::new());
+    let found = |(row, path): &(Vec<u8>, Vec<u8>)| {
+        above.truncate(usize::from(row[4]) - 1);
+        let plain = above.last().copied().unwrap_or(true) && !row[7..].contains(&b'>');
+        above.push(plain && met.insert(path.to_ascii_uppercase()));
+        above[above.len() - 1]
+    };
+    rows.iter().map(found).collect()
+}
+
 #[test]
 fn what_tree_lists_look_up_finds() {
     let mut rng = Rng::new(3);
-    let (mut found, mut all) = (0, 0);
+    // Rows that are to be found, and rows that others or a '>' hide.
+    let (mut found, mut hidden) = (0, 0);
     for _ in 0..200 {
         let made = planted(&mut rng);
-        for (row, path) in listed(&made, 1_000).into_iter().chain(listed(&made, 8)) {
-            let lbn = u32::from_le_bytes(row[..4].try_into().unwrap());
-            let answer = look_up(&made.image, made.drive, made.s, &made.tree.rule, &path);
-            found += u32::from(answer == done(lbn, u32::from(row[5] == 2)));
-            all += 1;
+        for rows in [listed(&made, 1_000), listed(&made, 8)] {
+            for ((row, path), findable) in rows.iter().zip(findable(&rows)) {
+                if !findable {
+                    hidden += 1;
+                    continue;
+                }
+                let lbn = u32::from_le_bytes(row[..4].try_into().unwrap());
+                let answer = look_up(&made.image, made.drive, made.s, &made.tree.rule, path);
+                assert_eq!(answer, done(lbn, u32::from(row[5] == 2)), "{}", path.escape_ascii());
+                found += 1;
+            }
         }
     }
-    assert!(all > 3_000 && found > all / 2, "{found} of {all}");
+    assert!(found > 3_000 && hidden > 300, "{found} found, {hidden} hidden");
+}
+
+/// Up to 20 bytes of the image become others.
+fn spoil(rng: &mut Rng, image: &mut [u8]) {
+    for _ in 0..1 + rng.below(20) {
+        let at = rng.below(image.len() as u32) as usize;
+        image[at] = rng.number() as u8;
+    }
 }
 
 #[test]
 fn spoilt_images_are_answered() {
     let mut rng = Rng::new(4);
+    // Images of which tree answers another thing than before.
+    let mut others = 0;
     for _ in 0..100 {
         let made = planted(&mut rng);
+        let Planted { drive, s, tree: Tree { rule, .. }, .. } = &made;
+        let before = made.model_tree(50);
         for _ in 0..20 {
             let mut image = made.image.clone();
-            for _ in 0..1 + rng.below(20) {
-                let at = rng.below(image.len() as u32) as usize;
-                image[at] = rng.number() as u8;
-            }
-            let Planted { drive, s, tree: Tree { rule, .. }, .. } = &made;
+            spoil(&mut rng, &mut image);
             let mut bytes = vec![0xA5; 32 * 50];
             let answer = tree(&image, *drive, *s, rule, &mut bytes);
+            assert!([0, 2, 6, 11].contains(&answer.number));
             let filled = 32 * answer.a as usize;
             assert!(bytes[filled..].iter().all(|&byte| byte == 0xA5));
+            others += u32::from((answer, bytes) != before);
             let path = random_path(&mut rng, &made.tree);
             let answer = look_up(&image, *drive, *s, rule, &path);
-            assert!([0, 1, 2, 6, 11].contains(&answer.number));
+            assert!([0, 2, 6, 11].contains(&answer.number));
         }
     }
+    assert!(others > 100, "{others}");
 }
 
 /// What a tree has: no rule, a root without word 8, and in its directories a wrong block, an overflow
-/// block, a directory above or the same, a dangling, an invalid entry, and one of a bad length.
-fn traits(tree: &Tree) -> [bool; 8] {
+/// block, a directory above or the same, a dangling, an invalid entry, one of a bad length, one with
+/// the name of one before it, and a name with a '>'.
+fn traits(tree: &Tree) -> [bool; 10] {
     let directory = |i: usize| tree.nodes[i].sort == 3;
-    let mut has = [tree.rule.is_empty(), !directory(0), false, false, false, false, false, false];
+    let mut has = [false; 10];
+    (has[0], has[1]) = (tree.rule.is_empty(), !directory(0));
     for i in (0..tree.nodes.len()).filter(|&i| i == 0 || directory(i)) {
+        let mut names = HashSet::new();
         for ((r, _), line) in tree.places(i).into_iter().zip(&tree.nodes[i].lines) {
             let node = if let Names::Node(node) = line.names { Some(node) } else { None };
             let here = [
@@ -237,6 +271,8 @@ fn traits(tree: &Tree) -> [bool; 8] {
                 node.is_none(),
                 line.flags % 2 == 0,
                 line.length == 0 || line.length > 25,
+                !names.insert(line.name.to_ascii_uppercase()),
+                line.name.contains(&b'>'),
             ];
             has[2..].iter_mut().zip(here).for_each(|(has, here)| *has |= here);
         }
@@ -247,7 +283,7 @@ fn traits(tree: &Tree) -> [bool; 8] {
 #[test]
 fn random_trees_have_what_they_should() {
     let mut rng = Rng::new(5);
-    let mut seen = [0; 8];
+    let mut seen = [0; 10];
     for _ in 0..300 {
         let levels = 8 + rng.below(4);
         let has = traits(&random_tree(&mut rng, levels));

@@ -15,6 +15,11 @@ pub fn cases(by_default: u64) -> u64 {
     number("TAPERMOSS_CASES").unwrap_or(by_default)
 }
 
+/// The number of cases in rounds of so many each; 50 rounds however few cases are asked for.
+pub fn rounds(by_default: u64, each: u64) -> u64 {
+    (cases(by_default) / each).max(50)
+}
+
 /// Whether a long run was asked for.
 pub fn long_run() -> bool {
     number("TAPERMOSS_CASES").is_some()

@@ -24,11 +24,16 @@ impl Tally {
         *self.0.entry((format!("{:?}", call.name), outcome)).or_default() += 1;
     }
 
+    /// How often a call had an outcome.
+    pub fn times(&self, name: Name, outcome: u32) -> u64 {
+        self.0.get(&(format!("{name:?}"), outcome)).copied().unwrap_or(0)
+    }
+
     /// Asserts that every outcome that these calls have was met.
     pub fn must_have_all(&self, names: &[Name]) {
         for &name in names {
             for outcome in outcomes(name) {
-                let met = self.0.contains_key(&(format!("{name:?}"), outcome));
+                let met = self.times(name, outcome) > 0;
                 assert!(met, "{name:?} never had outcome {outcome}: {:?}", self.0);
             }
         }

@@ -12,6 +12,7 @@ pub struct Expected {
     pub call: Call,
     pub answer: Answer,
     pub image_crc: u32,
+    /// That of the caller's buffer, or rows, in a read, a description or a tree.
     pub buffer_crc: Option<u32>,
     /// The rows that a tree must fill, one after the other.
     pub rows: Vec<u8>,
@@ -35,20 +36,25 @@ pub struct Case {
     pub steps: Vec<Step>,
 }
 
-/// The cases of a file, or what is wrong with a line of it.
+/// The cases of a file, or what is wrong with it. A case lasts from its `case` to its `end`; between two of them only remarks
+/// stand.
 pub fn parse(text: &str) -> Result<Vec<Case>, String> {
-    let mut cases: Vec<Case> = Vec::new();
+    let (mut cases, mut open): (Vec<Case>, Option<Case>) = (Vec::new(), None);
     for (number, line) in text.lines().enumerate().map(|(i, line)| (i + 1, line)) {
         let words: Vec<&str> = line.split_whitespace().collect();
         let understood = match words.first().copied() {
-            None | Some("end") => Some(()),
+            None => Some(()),
             Some(word) if word.starts_with('#') => Some(()),
-            Some("case") => start(&words).map(|case| cases.push(case)),
-            Some(_) => cases.last_mut().and_then(|case| step(case, &words, number)),
+            Some("case") if open.is_none() => start(&words).map(|case| open = Some(case)),
+            Some("end") => open.take().map(|case| cases.push(case)),
+            Some(_) => open.as_mut().and_then(|case| step(case, &words, number)),
         };
         understood.ok_or_else(|| format!("line {number} is not understood: {:.60}", line))?;
     }
-    Ok(cases)
+    match open {
+        None => Ok(cases),
+        Some(case) => Err(format!("case {} has no end", case.name)),
+    }
 }
 
 /// `case K drive D records N s S`
@@ -96,7 +102,7 @@ fn row(words: &[&str]) -> Option<[u8; ROW]> {
     Some(row)
 }
 
-/// `call NAME ARGS -> O NUM BLK MADE A B C image CRC [buffer CRC]`
+/// `call NAME ARGS -> O NUM BLK MADE A B C image CRC`, and `buffer CRC` in a read, a description or a tree
 fn expected(words: &[&str], line: usize) -> Option<Expected> {
     let arrow = words.iter().position(|&word| word == "->")?;
     let call = call(words.get(1)?, words.get(2..arrow)?)?;
@@ -110,12 +116,19 @@ fn expected(words: &[&str], line: usize) -> Option<Expected> {
         b: field(5)?,
         c: field(6)?,
     };
-    let crc = |label: &str| {
-        let at = words.iter().position(|&word| word == label)?;
-        u32::from_str_radix(words.get(at + 1)?, 16).ok()
+    let summed = matches!(call.name, Name::Read | Name::Description | Name::Tree);
+    let (image_crc, buffer_crc) = match (summed, words.get(arrow + 8..)?) {
+        (false, ["image", image]) => (crc(image)?, None),
+        (true, ["image", image, "buffer", buffer]) => (crc(image)?, Some(crc(buffer)?)),
+        _ => return None,
     };
-    let (image_crc, buffer_crc) = (crc("image")?, crc("buffer"));
     Some(Expected { call, answer, image_crc, buffer_crc, rows: Vec::new(), line })
+}
+
+/// Eight hex digits.
+fn crc(word: &str) -> Option<u32> {
+    let bytes: [u8; 4] = unhex(word)?.try_into().ok()?;
+    Some(u32::from_be_bytes(bytes))
 }
 
 /// The call of this name, and how many arguments it has after the image.
@@ -177,7 +190,7 @@ fn bytes(word: &str) -> Option<Vec<u8>> {
 }
 
 fn unhex(text: &str) -> Option<Vec<u8>> {
-    if text.len() % 2 != 0 || !text.is_ascii() {
+    if text.len() % 2 != 0 || !text.bytes().all(|digit| digit.is_ascii_hexdigit()) {
         return None;
     }
     (0..text.len()).step_by(2).map(|i| u8::from_str_radix(&text[i..i + 2], 16).ok()).collect()

@@ -1,38 +1,27 @@
 //! Helpers of the tests: words of an image, and answers.
 #![allow(dead_code)]
 
+pub mod directories;
+
 use reference::*;
 
 pub const ALL: u32 = u32::MAX;
 
 pub fn refused(number: u32) -> Answer {
-    Answer {
-        outcome: REFUSED,
-        number,
-        ..Answer::default()
-    }
+    Answer { outcome: REFUSED, number, ..Answer::default() }
 }
 
 pub fn absent() -> Answer {
-    Answer {
-        outcome: ABSENT,
-        ..Answer::default()
-    }
+    Answer { outcome: ABSENT, ..Answer::default() }
 }
 
 /// A changing call done with so many stores.
 pub fn made(made: u32) -> Answer {
-    Answer {
-        made,
-        ..Answer::default()
-    }
+    Answer { made, ..Answer::default() }
 }
 
 pub fn malformed(block: u32) -> Answer {
-    Answer {
-        block,
-        ..refused(4)
-    }
+    Answer { block, ..refused(4) }
 }
 
 /// The place of word `word` of block b; header words are 0-7, data words 8-263.
@@ -65,17 +54,10 @@ pub fn blocks(plan: &Plan) -> Vec<u32> {
 
 /// A call done with these values.
 pub fn done(a: u32, b: u32) -> Answer {
-    Answer {
-        a,
-        b,
-        ..Answer::default()
-    }
+    Answer { a, b, ..Answer::default() }
 }
 
 /// Refused by 11: a directory of the tenth level.
 pub fn deep(block: u32) -> Answer {
-    Answer {
-        block,
-        ..refused(11)
-    }
+    Answer { block, ..refused(11) }
 }

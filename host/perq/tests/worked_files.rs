@@ -1,0 +1,82 @@
+//! The reader of worked cases: a whole file is read, and one with a fault in it is an error, so that no case is left out.
+
+use trials::worked_file::{parse, Step};
+
+/// A case with each kind of line, and one without calls.
+const GOOD: &str = "# A remark.
+case 1 drive 3 records 2 s 1
+put 528 00ff
+call check 3 1 -> 2 2 0 0 0 0 0 image 0123abcd
+put 9 77
+call read 3 1 2 0 pattern:512:5 -> 0 0 0 0 0 0 0 image 0123abcd buffer 89abcdef
+call description 3 1 2 hex:00 -> 2 3 0 0 0 0 0 image 0123abcd buffer 89abcdef
+
+call tree 3 1 hex: pattern:64:0 -> 0 0 0 0 1 0 0 image 0123abcd buffer 89abcdef
+row 5 1 0 4142
+end
+case 2 drive 0 records 1 s 1
+end
+";
+
+#[test]
+fn a_good_file_is_read() {
+    let cases = parse(GOOD).expect("a good file");
+    let names: Vec<(&str, usize, usize)> =
+        cases.iter().map(|case| (&case.name[..], case.length, case.steps.len())).collect();
+    assert_eq!(names, [("1", 1_056, 6), ("2", 528, 0)]);
+    let calls = cases[0].steps.iter().filter_map(|step| match step {
+        Step::Call(expected) => Some((expected.line, expected.buffer_crc, expected.rows.len())),
+        Step::Put(..) => None,
+    });
+    let crc = Some(0x89AB_CDEF);
+    let expected = [(4, None, 0), (6, crc, 0), (7, crc, 0), (9, crc, 32)];
+    assert_eq!(calls.collect::<Vec<_>>(), expected);
+}
+
+/// The line whose fault is named, and it alone, is not understood.
+fn must_fail(text: &str, line: usize) {
+    let problem = parse(text).expect_err(text);
+    assert!(problem.starts_with(&format!("line {line} is not understood")), "{problem}");
+}
+
+#[test]
+fn a_sum_that_is_missing_or_garbled_is_an_error() {
+    for (line, call) in [(6, "read"), (7, "description"), (9, "tree")] {
+        let whole = GOOD.lines().nth(line - 1).expect("the line");
+        assert!(whole.contains(call));
+        for spoilt in [
+            "",
+            "buffer",
+            "89abcdef",
+            "buffer 89abcde",
+            "buffer 89abcdeg",
+            "buffer 089abcdef",
+            "bufer 89abcdef",
+        ] {
+            must_fail(&GOOD.replace(whole, &whole.replace("buffer 89abcdef", spoilt)), line);
+        }
+        for spoilt in ["", "image", "image 0123abc", "image x123abcd", "image +123abcd"] {
+            must_fail(&GOOD.replace(whole, &whole.replace("image 0123abcd", spoilt)), line);
+        }
+        must_fail(&GOOD.replace(whole, &format!("{whole} more")), line);
+    }
+    must_fail(
+        &GOOD.replace("0 0 image 0123abcd\nput", "0 0 image 0123abcd buffer 89abcdef\nput"),
+        4,
+    );
+}
+
+#[test]
+fn a_case_ends_where_it_says_so() {
+    let steps =
+        ["put 0 00", "call check 3 1 -> 2 2 0 0 0 0 0 image 0123abcd", "row 5 1 0 41", "end"];
+    for step in steps {
+        must_fail(&format!("{step}\n{GOOD}"), 1);
+        must_fail(&format!("{GOOD}{step}\n"), 14);
+        must_fail(&GOOD.replace("case 2", &format!("{step}\ncase 2")), 12);
+    }
+    // Line 11 is the first end.
+    must_fail(&GOOD.replacen("end\n", "", 1), 11);
+    let open = GOOD.strip_suffix("end\n").expect("the last end");
+    assert_eq!(parse(open).expect_err("a case without an end"), "case 2 has no end");
+}
