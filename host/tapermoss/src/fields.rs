@@ -64,6 +64,23 @@ pub fn escaped(bytes: &[u8]) -> String {
     bytes.iter().map(shown).collect()
 }
 
+/// An entry's name as a text: '>' is escaped too, and a blank where it begins or ends, so that it cannot be taken for
+/// another name or for several.
+pub fn escaped_name(name: &[u8]) -> String {
+    let last = name.len().saturating_sub(1);
+    let shown = |(i, byte): (usize, &u8)| match byte {
+        b' ' if i == 0 || i == last => "\\x20".to_string(),
+        b'>' => "\\x3e".to_string(),
+        _ => escaped(&[*byte]),
+    };
+    name.iter().enumerate().map(shown).collect()
+}
+
+/// A path as a text, its names each as `escaped_name` has them.
+pub fn escaped_path(path: &[u8]) -> String {
+    path.split(|&byte| byte == b'>').map(escaped_name).collect::<Vec<String>>().join(">")
+}
+
 /// The bytes of a text that `escaped` has made; none where a backslash stands for nothing.
 pub fn unescaped(text: &[u8]) -> Option<Vec<u8>> {
     let mut bytes = Vec::with_capacity(text.len());

@@ -2,24 +2,26 @@
 //! for a sound one.
 
 use crate::directories::{Directories, ROWS};
-use crate::fields::{self, escaped, BLOCKS_IN_USE, KIND};
+use crate::fields::{self, escaped, escaped_path, BLOCKS_IN_USE, KIND};
 use crate::hashing::RuleArguments;
 use crate::image::{PartitionArguments, Reading};
 use crate::names::hex;
-use crate::paths::{self, Paths};
+use crate::paths::Paths;
 use crate::problem::Problem;
 use crate::told::Told;
 use crate::volume;
+use crate::walked::Walked;
 use clap::Args;
 use perq::{Drive, Refusal};
 use serde_json::{json, Value};
 
 pub const EXAMPLES: &str = "\
 Blocks are those of data; in use counts the file's own block and its pointer blocks too. The name is the one in the file's
-description; what cannot be printed in it is escaped, and JSON has its bytes too. The path is the one by which the directories
-lead to the file, as `tree` shows it; it is printed where it says another thing than the name: the two are compared
-without case, and a device and a partition before the name (sys:boot>) are passed over. JSON has all paths of every file. If
-there is no tree, it is said why.
+description; what cannot be printed in it is escaped, and JSON has its bytes too. The path is one by which the directories
+lead to the file, as --path takes it. It is left blank where it is the name, compared without case; - says that no path leads
+to the file, as to the root that only the empty path names, and ? that it is not known, since not all of the tree was looked at;
+it is said why. JSON has all paths of every file that were found, and whether these are all. If there is no tree, it is said
+why.
 
 Examples:
   tapermoss files disk.img
@@ -64,7 +66,7 @@ fn list(image: &[u8], drive: Drive, s: u32, f: u32) -> Result<Listed, Refusal> {
 }
 
 fn as_json(list: &List) -> Value {
-    let path = |path: &Vec<u8>| json!({"path": escaped(path), "path_bytes": hex(path)});
+    let path = |path: &Vec<u8>| json!({"path": escaped_path(path), "path_bytes": hex(path)});
     let file = |file: &Listed| {
         json!({
             "lbn": file.lbn, "fileid": file.fileid, "kind": file.kind, "blocks": file.blocks,
@@ -76,26 +78,16 @@ fn as_json(list: &List) -> Value {
     json!({
         "files": list.files.iter().map(file).collect::<Vec<Value>>(),
         "malformed": list.malformed,
+        "paths_complete": list.paths.complete,
         "paths_remark": list.paths.remark,
+        "passed_over": list.paths.passed_over,
     })
-}
-
-/// The path that is printed beside a name, if one says another thing than it does.
-fn other_path(list: &List, file: &Listed) -> String {
-    let name = file.name.as_deref().unwrap_or_default();
-    let others: Vec<&Vec<u8>> =
-        list.paths.of(file.lbn).iter().filter(|path| !paths::says(name, path)).collect();
-    match others[..] {
-        [] => String::new(),
-        [path] => escaped(path),
-        [path, ..] => format!("{} (and {} more)", escaped(path), others.len() - 1),
-    }
 }
 
 fn as_text(list: &List) -> String {
     let rows = list.files.iter().map(|file| {
         let name = file.name.as_deref().map_or("-".to_string(), escaped);
-        (file, name, other_path(list, file))
+        (file, name, list.paths.beside(file.lbn, file.name.as_deref().unwrap_or_default()))
     });
     let rows: Vec<(&Listed, String, String)> = rows.collect();
     let wide = match rows.iter().any(|(_, _, path)| !path.is_empty()) {
@@ -117,7 +109,11 @@ fn as_text(list: &List) -> String {
     for block in &list.malformed {
         text += &format!("block {block} is a malformed file block\n");
     }
-    text + &list.paths.remark.as_ref().map_or(String::new(), |remark| format!("{remark}\n"))
+    let passed_over = Walked::remark(list.paths.passed_over);
+    for remark in list.paths.remark.iter().chain(&passed_over) {
+        text += &format!("{remark}\n");
+    }
+    text
 }
 
 pub fn run(arguments: &Arguments) -> Result<Told, Problem> {

@@ -4,6 +4,7 @@ use crate::fields::escaped;
 use crate::image::some;
 use crate::names::{self, shown};
 use crate::problem::Problem;
+use clap::builder::TypedValueParser;
 use clap::Args;
 use perq::Rule;
 use std::os::unix::ffi::OsStrExt;
@@ -12,18 +13,32 @@ use std::path::{Path, PathBuf};
 /// What the help says of --rule.
 pub const HELP: &str = "\
 The hash rule of the directories: 26 numbers from 0 to 255, commas or blanks between them, or a file that holds them; - is \
-standard input [default: not known, every block is looked at]";
+standard input. What has only digits, commas, blanks, signs, dots and brackets is numbers; a file of such a name is given with \
+./ before it. In a file a remark is what follows a # on its line [default: not known, every block is looked at]";
 
 /// How many numbers a rule has.
 pub const NUMBERS: usize = 26;
-/// More bytes than a file with a rule and remarks has.
-const LONGEST: usize = 65_536;
+/// More bytes than a file with a rule and remarks has: 16 MiB. What `rule` prints has a line for each file it was given.
+const LONGEST: usize = 16 << 20;
 
 /// The rule on the command line.
 #[derive(Args)]
 pub struct RuleArguments {
-    #[arg(long, value_name = "RULE", value_parser = names::path(), help = HELP)]
+    #[arg(long, value_name = "RULE", allow_hyphen_values = true, value_parser = value(), help = HELP)]
     rule: Option<PathBuf>,
+}
+
+/// A rule on the command line. One that is missing must not be the option that comes next.
+pub fn value() -> impl TypedValueParser<Value = PathBuf> {
+    names::path().try_map(|path| {
+        let row = path.as_os_str().as_bytes();
+        match row.starts_with(b"--") && !is_row(row) {
+            true => {
+                Err("it begins as an option does; a file of such a name is given with ./ before it")
+            }
+            false => Ok(path),
+        }
+    })
 }
 
 impl RuleArguments {
@@ -32,21 +47,37 @@ impl RuleArguments {
     }
 }
 
-/// The rule that --rule gives, not known without it. What begins with a number is a row of them; anything else is the name
-/// of a file.
+/// The rule that --rule gives, not known without it. What can be nothing but numbers, right or wrong, is a row of them;
+/// anything else is the name of a file.
 pub fn given(text: Option<&Path>) -> Result<Rule, Problem> {
     let Some(path) = text else { return Ok(Rule::Unknown) };
     let row = path.as_os_str().as_bytes();
-    if words(row).next().is_none_or(is_number) {
-        return parsed(row, "--rule");
+    if is_row(row) {
+        return parsed(row, "--rule").map_err(|problem| {
+            let hint = "; a file of such a name is given with ./ before it";
+            Problem { sentence: problem.sentence + hint, ..problem }
+        });
     }
     let bytes = some(path, LONGEST)?;
     if bytes.len() > LONGEST {
         let told = format!("{} has more than {LONGEST} bytes: it is no rule", shown(path));
         return Err(Problem::usage(told));
     }
-    let lines = bytes.split(|&byte| byte == b'\n').filter(|line| !line.starts_with(b"#"));
-    parsed(&lines.collect::<Vec<&[u8]>>().join(&b'\n'), &shown(path))
+    let lines: Vec<&[u8]> = bytes.split(|&byte| byte == b'\n').map(without_remark).collect();
+    parsed(&lines.join(&b'\n'), &shown(path))
+}
+
+/// Whether a text has only what stands in rows of numbers, or in what a person took for one.
+fn is_row(text: &[u8]) -> bool {
+    let is_part = |byte: &u8| {
+        byte.is_ascii_digit() || byte.is_ascii_whitespace() || b",+-.()[]{}".contains(byte)
+    };
+    text.iter().all(is_part)
+}
+
+/// A line of a file as far as a #.
+fn without_remark(line: &[u8]) -> &[u8] {
+    line.split(|&byte| byte == b'#').next().unwrap_or_default()
 }
 
 /// The numbers as --rule takes them.

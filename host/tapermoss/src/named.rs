@@ -1,9 +1,9 @@
 //! The file that a command is about: named by its block, or by its path from the root directory.
 
-use crate::directories::Directories;
+use crate::directories::{Directories, JOINT};
 use crate::fields::unescaped;
 use crate::hashing;
-use crate::names::{self, shown};
+use crate::names::shown;
 use crate::problem::Problem;
 use clap::{ArgGroup, Args};
 use perq::{Drive, Rule};
@@ -18,10 +18,12 @@ pub struct NamedFile {
     /// The file's block, as `files` lists it
     #[arg(long, value_name = "LBN")]
     file: Option<u32>,
-    /// The file's path: names from the root directory down, joined by '>', as `tree` prints them; an empty one is the root
-    #[arg(long, value_name = "PATH")]
+    /// The file's path: names from the root directory down, joined by '>', as `tree` prints them; an empty one is the root,
+    /// in commands that change nothing
+    #[arg(long, value_name = "PATH", allow_hyphen_values = true)]
     path: Option<OsString>,
-    #[arg(long, value_name = "RULE", conflicts_with = "file", value_parser = names::path(), help = hashing::HELP)]
+    #[arg(long, value_name = "RULE", allow_hyphen_values = true, value_parser = hashing::value(), help = hashing::HELP)]
+    #[arg(conflicts_with = "file")]
     rule: Option<PathBuf>,
 }
 
@@ -43,6 +45,16 @@ impl NamedFile {
         }
     }
 
+    /// Refuses the empty path, which a script may give by mistake, where the root would be changed.
+    pub fn must_not_be_empty(&self) -> Result<(), Problem> {
+        match &self.path {
+            Some(path) if path.is_empty() => Err(Problem::usage(
+                "the empty path is the root directory; to change that, name it with --file LBN",
+            )),
+            _ => Ok(()),
+        }
+    }
+
     /// The file's block in an image.
     pub fn find(&self, image: &[u8], drive: Drive, s: u32) -> Result<u32, Problem> {
         match self.wanted()? {
@@ -52,12 +64,19 @@ impl NamedFile {
     }
 }
 
-/// The bytes of a path that is written as `tree` prints it.
+/// The bytes of a path that is written as `tree` prints it. A '>' that is escaped stands in a name: it joins nothing.
 fn path_bytes(path: &OsString) -> Result<Vec<u8>, Problem> {
-    unescaped(path.as_bytes()).ok_or_else(|| {
+    let given = path.as_bytes().split(|&byte| byte == JOINT);
+    let names = given.map(unescaped).collect::<Option<Vec<Vec<u8>>>>().ok_or_else(|| {
         Problem::usage(format!(
             "in a path a backslash is written \\\\ and a byte \\x and two digits, as `tree` prints them; '{}' has it otherwise",
             shown(Path::new(path))
         ))
-    })
+    })?;
+    if names.iter().any(|name| name.contains(&JOINT)) {
+        return Err(Problem::usage(
+            "no path leads to an entry with a '>' in its name, which is what \\x3e stands for; name the file with --file LBN",
+        ));
+    }
+    Ok(names.join(&JOINT))
 }

@@ -66,7 +66,7 @@ impl Outcome {
 
 /// The exit statuses, for the help.
 pub const STATUSES: &str = "\
-Exit statuses of all commands; of several images or partitions it is that of the worst, in the order 0, 3, 4, 6, 1, 2, 5:
+Exit statuses of all commands; of several images or partitions it is that of the worst, in the order 0, 3, 7, 4, 6, 1, 2, 5:
   0  done, or sound
   1  refused by the library: the sentence has the number
   2  wrong use of the command line

@@ -76,13 +76,16 @@ impl<'a> Pair<'a> {
     }
 
     /// A block of the file that a path leads to, both from one image: what is a file's block in one may be another file's in
-    /// the other. A dangling entry names what show refuses as no file, so the original answers there too.
+    /// the other. A dangling entry names what show refuses as no file, so the original answers there too, and where one stands
+    /// in the way.
     pub fn by_path(&self, path: &[u8], rule: Rule, block: u32) -> Result<Found<'a>, Problem> {
         let Pair { drive, s, .. } = *self;
         let within = |from| Directories { image: self.image(from), drive, s, rule };
-        let from = match within(Source::Repaired).look_up(path) {
-            Ok(None | Some(Target::File(_))) => Source::Repaired,
-            Ok(Some(Target::Dangling)) | Err(_) => Source::Original,
+        let repaired = within(Source::Repaired);
+        let from = match repaired.look_up(path) {
+            Ok(Some(Target::File(_))) => Source::Repaired,
+            Ok(None) if !repaired.is_barred(path) => Source::Repaired,
+            Ok(_) | Err(_) => Source::Original,
         };
         if let (Source::Original, Some(no_image)) = (from, &self.original.no_image) {
             return Err(no_image.clone());

@@ -17,8 +17,8 @@ use std::path::{Path, PathBuf};
 pub const EXAMPLES: &str = "\
 From a pair the repaired image answers unless it refuses; then the original does, its refusal included. Which one it was is
 said before the bytes, with --raw on standard error. A path is looked up in the image that answers: the repaired one unless
-it refuses the path or has only a dangling entry there. A block that the file does not have, or a path that leads to no file,
-has exit status 7.
+it refuses the path or a dangling entry stands in its way, in the middle or at its end. A block that the file does not have,
+or a path that leads to no file, has exit status 7.
 
 Examples:
   tapermoss show disk.img --file 211 --block 0

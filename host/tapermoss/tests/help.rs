@@ -43,3 +43,17 @@ fn every_command_has_an_example_in_its_help() {
         assert!(lines.iter().all(|line| line.starts_with(&start)), "{help}");
     }
 }
+
+#[test]
+fn the_help_and_the_guide_name_every_status_and_which_is_worse() {
+    let order = "in the order 0, 3, 7, 4, 6, 1, 2, 5";
+    let help = printed(&["--help"]);
+    assert!(help.contains(&format!("{order}:\n")), "{help}");
+    let guide = concat!(env!("CARGO_MANIFEST_DIR"), "/../../docs/TOOL.md");
+    let guide = std::fs::read_to_string(guide).expect("it is there");
+    assert!(guide.contains(&format!("{order}. ")));
+    for status in 0..8 {
+        assert_eq!(help.matches(&format!("\n  {status}  ")).count(), 1, "{status}");
+        assert_eq!(guide.matches(&format!("\n| {status} | ")).count(), 1, "{status}");
+    }
+}

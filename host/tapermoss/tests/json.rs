@@ -3,9 +3,10 @@
 
 mod common;
 
-use common::planted::{chain, letters};
+use common::planted::{chain, letters, line, Planted};
 use common::{full, hex, malformed, pipe, sample, tool, unsound, Folder, FLOPPY};
 use reference::sample::scattered;
+use reference::tree_sample::{Node, Tree};
 use serde_json::{json, Value};
 use std::collections::BTreeSet;
 use std::ffi::OsStr;
@@ -46,6 +47,14 @@ const COMMANDS: [&str; 17] = [
     "tour",
 ];
 
+/// A directory whose entries stand by the rule that a name's hash is its length: of 1 to 9 letters, in blocks 1 to 9.
+fn by_length() -> Vec<u8> {
+    let mut rule = vec![0; 26];
+    rule[0] = 1;
+    let lines = (1..=9).map(|length| line(&"x".repeat(length), 1)).collect();
+    Planted::of(Tree { rule, nodes: vec![Node::directory(lines), Node::file(0)] }).image
+}
+
 /// A folder with an image of every kind; `images` is a folder in it.
 fn all_kinds() -> Folder {
     let folder = Folder::new();
@@ -56,6 +65,7 @@ fn all_kinds() -> Folder {
     folder.put("tight", &scattered(FLOPPY, 432, 6, 11, &[3], 7));
     folder.put("letters", &letters().image);
     folder.put("deep", &chain(10).image);
+    folder.put("by-length", &by_length());
     folder.put("rule", b"1,2,3");
     folder.put("zeros", &[0; 528 * 432]);
     folder.put("ragged", &[0; 1000]);
@@ -134,7 +144,7 @@ const SUCCESSES: [(&str, &str, &str, &str); 26] = [
     ("files @disk", "done", "/files/2/blocks", "70"),
     ("files @letters", "done", "/files/2/paths/0/path", "\"letters>first.text\""),
     ("tree @letters", "done", "/entries/1/path", "\"letters>first.text\""),
-    ("rule @letters", "done", "/entries", "5"),
+    ("rule @by-length", "done", "/entries", "9"),
     ("cat @disk --file 9", "done", "/blocks", "70"),
     ("cat @letters --path letters>first.text", "done", "/file", "9"),
     ("show @disk --file 7 --block 0", "done", "/relative", "0"),

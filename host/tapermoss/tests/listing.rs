@@ -30,7 +30,7 @@ fn a_path_is_printed_where_the_name_says_another_thing() {
     name(&mut image, 10, b"boat.drawing");
     let (text, object) = listed(&Folder::new(), &image);
     let expected = "   LBN  FileID   kind  blocks  in use  name          path
-     7   57351      0       1       2  -
+     7   57351      0       1       2  -             -
      8   57352      1       1       2  Letters
      9   57353      2       3       4  first.text    letters>first.text
     10   57354      3      70      72  boat.drawing  House.drawing
@@ -45,45 +45,69 @@ fn a_path_is_printed_where_the_name_says_another_thing() {
         json!([path("House.drawing")]),
     ];
     assert_eq!(paths, expected.iter().collect::<Vec<_>>());
-    assert_eq!(object["paths_remark"], Value::Null);
+    assert_eq!((&object["paths_remark"], &object["paths_complete"]), (&json!(null), &json!(true)));
 }
 
 #[test]
-fn case_and_what_is_before_the_path_make_no_difference() {
-    let same: [&[u8]; 4] = [
-        b"letters>first.text",
-        b"LETTERS>First.Text",
+fn case_makes_no_difference_and_all_else_does() {
+    let same: [&[u8]; 2] = [b"letters>first.text", b"LETTERS>First.Text"];
+    let others: [&[u8]; 8] = [
+        b"first.text",
         b"sys:boot>letters>first.text",
         b":>letters>first.text",
-    ];
-    let others: [&[u8]; 6] = [
-        b"first.text",
         b"sys:letters>first.text",
         b"boot>letters>first.text",
-        b"sys:boot>more>letters>first.text",
         b"letters>first.text>",
+        b"letters>first.text ",
         b"xletters>first.text",
     ];
     let folder = Folder::new();
-    let shows = |bytes: &[u8]| {
+    let row = |bytes: &[u8]| {
         let mut image = letters().image;
-        name(&mut image, 8, b"letters");
         name(&mut image, 9, bytes);
-        name(&mut image, 10, b"house.drawing");
         let (text, _) = listed(&folder, &image);
-        let row = text.lines().find(|line| line.starts_with("     9 ")).expect("its row");
-        let is_shown =
-            row.ends_with("  letters>first.text") && row.matches("first.text").count() == 2;
-        let heading = text.lines().next().expect("a heading");
-        assert_eq!(heading.ends_with("  path"), is_shown, "{text}");
-        is_shown
+        text.lines().find(|line| line.starts_with("     9 ")).expect("its row").to_string()
     };
     for name in same {
-        assert!(!shows(name), "{}", String::from_utf8_lossy(name));
+        let text = String::from_utf8_lossy(name);
+        assert!(row(name).ends_with(&format!("       4  {text}")), "{text}");
     }
     for name in others {
-        assert!(shows(name), "{}", String::from_utf8_lossy(name));
+        let text = String::from_utf8_lossy(name);
+        let row = row(name);
+        assert!(
+            row.starts_with(&format!("     9   57353      2       3       4  {text}  ")),
+            "{row}"
+        );
+        assert!(row.ends_with("  letters>first.text"), "{row}");
     }
+}
+
+#[test]
+fn a_file_that_no_path_leads_to_has_a_stroke() {
+    // Nothing names file 9, and file 10 only an entry that an earlier one of its name hides.
+    let lines = vec![line("a", 1), line("A", 3)];
+    let nodes = vec![Node::directory(lines), Node::file(1), Node::file(1), Node::file(1)];
+    let mut image = Planted::of(Tree { rule: Vec::new(), nodes }).image;
+    name(&mut image, 9, b"letters>lost.text");
+    name(&mut image, 10, b"A");
+    let (text, object) = listed(&Folder::new(), &image);
+    let rows: Vec<&str> = text.lines().skip(1).collect();
+    let ends = [
+        "  -                  -",
+        "  -                  a",
+        "  letters>lost.text  -",
+        "  A                  -",
+    ];
+    for (row, end) in rows.iter().zip(ends) {
+        assert!(row.ends_with(end), "{text}");
+    }
+    assert_eq!(rows.len(), 4, "{text}");
+    assert_eq!(
+        (&object["files"][2]["paths"], &object["files"][3]["paths"]),
+        (&json!([]), &json!([]))
+    );
+    assert_eq!(object["paths_complete"], true);
 }
 
 #[test]
@@ -117,10 +141,6 @@ fn without_a_tree_the_files_are_listed_and_it_is_said_why_they_have_no_paths() {
             rootless,
             "no paths: refused (6): the partition at block 6 has no root directory: its RootDirectoryID is nil",
         ),
-        (
-            chain(10).image,
-            "no paths: refused (11): the directory at block 16 is of the tenth level, and only nine are looked into",
-        ),
     ];
     for (image, remark) in images {
         let (text, object) = listed(&folder, &image);
@@ -139,7 +159,40 @@ fn without_a_tree_the_files_are_listed_and_it_is_said_why_they_have_no_paths() {
             .collect();
         assert_eq!(found, files);
         assert_eq!((&object["outcome"], &object["paths_remark"]), (&json!("done"), &json!(remark)));
+        assert_eq!(object["paths_complete"], false);
     }
+}
+
+#[test]
+fn of_a_tree_that_is_too_deep_the_paths_before_that_are_known() {
+    let mut deep = chain(10);
+    // One more file, which an entry behind that of the next directory names.
+    deep.tree.nodes.push(Node::file(1));
+    deep.tree.nodes[0].lines.push(line("behind", 10));
+    let mut image = Planted::of(deep.tree).image;
+    name(&mut image, 8, b"d");
+    let (text, object) = listed(&Folder::new(), &image);
+    let rows: Vec<&str> = text.lines().collect();
+    assert!(rows[0].ends_with("  name  path"), "{text}");
+    assert!(rows[1].starts_with("     7 ") && rows[1].ends_with("  -     ?"), "{text}");
+    assert!(rows[2].starts_with("     8 ") && rows[2].ends_with("  d"), "{text}");
+    assert!(rows[3].starts_with("     9 ") && rows[3].ends_with("  -     D>D"), "{text}");
+    assert!(
+        rows[9].starts_with("    15 ") && rows[9].ends_with("  -     D>D>D>D>D>D>D>D"),
+        "{text}"
+    );
+    assert!(rows[10].starts_with("    16 ") && rows[10].ends_with("  -     ?"), "{text}");
+    assert!(rows[11].starts_with("    17 ") && rows[11].ends_with("  -     ?"), "{text}");
+    let remark = "not all paths: refused (11): the directory at block 16 is of the tenth level, and only nine are looked into";
+    assert_eq!(rows[12..], [remark]);
+    assert_eq!(
+        (&object["paths_complete"], &object["paths_remark"]),
+        (&json!(false), &json!(remark))
+    );
+    assert_eq!(
+        (&object["files"][2]["paths"], &object["files"][9]["paths"]),
+        (&json!([path("D>D")]), &json!([]))
+    );
 }
 
 /// The files that the reference finds.
@@ -179,6 +232,10 @@ fn of_a_tree_that_is_too_large_not_all_paths_are_known_and_it_is_said() {
         listed(&Folder::new(), &Planted::of(Tree { rule: Vec::new(), nodes }).image);
     let remark = "not all paths: the tree has more than 65536 entries";
     assert!(text.ends_with(&format!("\n{remark}\n")), "{text}");
-    assert_eq!(object["paths_remark"], remark);
+    assert_eq!(
+        (&object["paths_complete"], &object["paths_remark"]),
+        (&json!(false), &json!(remark))
+    );
+    assert!(text.lines().nth(1).expect("the root").ends_with("  -     ?"), "{text}");
     assert!(text.lines().nth(2).expect("a row").ends_with("  D0 (and 1 more)"), "{text}");
 }

@@ -1,15 +1,13 @@
-//! `--path` wherever a command takes a file: the file that the description of the tree has there, from one image or from a
-//! pair, and a sentence that says which part of a path leads nowhere.
+//! `--path` wherever a command takes a file: the file that the description of the tree has there, and a sentence that says
+//! which part of a path leads nowhere.
 
 mod common;
 
 use common::planted::{chain, escaped, letters, line, Led, Planted, S};
-use common::{
-    fails, fails_with, misused, printed, printed_bytes, tapermoss, told, tool, Folder, FLOPPY,
-};
+use common::{fails, fails_with, misused, printed, printed_bytes, told, tool, Folder, FLOPPY};
 use reference::random_tree::{random_path, random_tree};
 use reference::sample::Rng;
-use reference::tree_sample::{set_root, Line, Names, Node, Stand, Tree};
+use reference::tree_sample::{set_root, Line, Node, Stand, Tree};
 use std::ffi::OsStr;
 use std::os::unix::ffi::OsStrExt;
 
@@ -32,16 +30,6 @@ fn looking_by_path_is_looking_by_block() {
         let text = printed(&["cat", &image, "--path", path, "--json"]);
         assert_eq!(text, printed(&["cat", &image, "--file", file, "--json"]));
     }
-}
-
-#[test]
-fn the_empty_path_is_the_root_directory() {
-    let folder = Folder::new();
-    let image = folder.put("disk", &letters().image);
-    let bytes = printed_bytes(&["cat", &image, "--path", ""]);
-    assert!(bytes == printed_bytes(&["cat", &image, "--file", "7"]));
-    // The name of the first entry stands after its length, in byte 7.
-    assert_eq!(&bytes[6..14], b"\x07letters");
 }
 
 #[test]
@@ -73,16 +61,19 @@ fn changing_by_path_is_the_change_of_that_file() {
 }
 
 /// Why each path leads nowhere in the tree of letters.
-const NOWHERE: [(&str, &str); 9] = [
+const NOWHERE: [(&str, &str); 12] = [
     ("none", "is not there: the root directory (block 7) has no entry 'none'"),
     ("none>first.text", "is not there: the root directory (block 7) has no entry 'none'"),
     ("letters>second.text", "is not there: 'letters' (block 8) has no entry 'second.text'"),
     ("LETTERS>a>b>c", "is not there: 'LETTERS' (block 8) has no entry 'a'"),
-    ("letters>", "is not there: 'letters' (block 8) has no entry ''"),
+    ("letters>", "is not there: a path does not end in '>'"),
+    ("house.drawing>", "is not there: a path does not end in '>'"),
+    (">", "is not there: a path does not end in '>'"),
+    ("letters>>x", "is not there: 'letters' (block 8) has no entry ''"),
     (">letters", "is not there: the root directory (block 7) has no entry ''"),
     ("house.drawing>x", "is not there: 'house.drawing' (block 10) is no directory"),
-    ("lost.text>x>y", "is not there: 'lost.text' is a dangling entry"),
-    ("letters>old", "is a dangling entry: what it names is no file"),
+    ("lost.text>x>y", "is not there: 'lost.text' is a dangling entry: it holds nil"),
+    ("letters>old", "is a dangling entry: it holds nil"),
 ];
 
 #[test]
@@ -166,7 +157,7 @@ fn random_paths_lead_where_the_descriptions_say() {
                     (0, said.is_empty())
                 }
                 Led::Dangling => {
-                    (1, said.contains("is a dangling entry: what it names is no file"))
+                    (1, said.contains(&format!("the path '{shown}' is a dangling entry: it ")))
                 }
                 Led::Nowhere => (2, said.contains(&format!("the path '{shown}' is not there: "))),
                 Led::TooDeep(block) => {
@@ -179,29 +170,6 @@ fn random_paths_lead_where_the_descriptions_say() {
         }
     }
     assert!(seen.iter().all(|&times| times > 5), "{seen:?}");
-}
-
-#[test]
-fn a_path_is_written_as_tree_prints_it() {
-    let names: [&[u8]; 4] = [b"a\\\x07\xff", b"\x1b[31m", b"\n\xe2\x80\xae", b"\\x41"];
-    let lines = (1..).zip(names).map(|(i, name)| Line::new(name, Names::Node(i))).collect();
-    let mut nodes = vec![Node::directory(lines)];
-    nodes.extend((1..=4).map(Node::file));
-    let folder = Folder::new();
-    let image = folder.put("disk", &Planted::of(Tree { rule: Vec::new(), nodes }).image);
-    let tree = printed(&["tree", &image]);
-    let shown: Vec<&str> = tree.lines().skip(3).map(|line| &line[8..]).collect();
-    for (blocks, path) in (1..).zip(shown) {
-        assert_eq!(printed_bytes(&["cat", &image, "--path", path]).len(), 512 * blocks, "{path}");
-    }
-    let raw = tool(&["cat", &image, "--path"]).arg(OsStr::from_bytes(names[2])).output();
-    assert_eq!(raw.expect("the tool runs").stdout.len(), 512 * 3);
-    for wrong in ["a\\", "\\q", "\\x4", "\\xg0", "\\X41"] {
-        let told = misused(&["cat", &image, "--path", wrong]);
-        let shown = wrong.replace('\\', "\\\\");
-        let sentence = format!("in a path a backslash is written \\\\ and a byte \\x and two digits, as `tree` prints them; '{shown}' has it otherwise");
-        assert_eq!(told, format!("tapermoss: {sentence}\n"));
-    }
 }
 
 #[test]
@@ -243,107 +211,4 @@ fn a_file_is_named_once() {
         let told = misused(&[command, &[&image, "--rule", "1"]].concat());
         assert!(told.contains("--path"), "{told}");
     }
-}
-
-/// A folder with the letters for an original, and an image that was made of them for the repaired one.
-fn pair(change: impl Fn(&mut Vec<u8>)) -> (Folder, [String; 5]) {
-    let folder = Folder::new();
-    let original = folder.put("disk", &letters().image);
-    let mut repaired = letters().image;
-    change(&mut repaired);
-    let repaired = folder.put("disk.repaired", &repaired);
-    let words = ["show", "--original", &original, "--repaired", &repaired].map(str::to_string);
-    (folder, words)
-}
-
-/// What `show` of a pair is asked and answers: the exit status, the first line of its output, and standard error.
-fn shown(words: &[String; 5], path: &str, block: &str) -> (Option<i32>, String, String) {
-    let words: Vec<&str> = words.iter().map(String::as_str).collect();
-    let output = tapermoss(&[&words[..], &["--path", path, "--block", block]].concat());
-    let text = String::from_utf8(output.stdout.clone()).expect("text");
-    (output.status.code(), text.lines().next().unwrap_or_default().to_string(), told(&output))
-}
-
-/// The block at which block r of file f stands in the letters.
-fn at(f: u32, r: u32) -> u32 {
-    reference::show(&letters().image, FLOPPY, S, f, r).a / 528
-}
-
-#[test]
-fn from_a_pair_the_repaired_image_looks_a_path_up_unless_it_refuses() {
-    let first = "letters>first.text";
-    let (_folder, words) = pair(|_| {});
-    let line = format!("the repaired image answered: block 1 of file 9 is block {}", at(9, 1));
-    assert_eq!(shown(&words, first, "1"), (Some(0), line, String::new()));
-    let line = "the repaired image answered: file 9 has no block 3: it ends before".to_string();
-    assert_eq!(shown(&words, first, "3"), (Some(7), line, String::new()));
-    let told = "tapermoss: the repaired image answered: the path 'none' is not there: the root directory (block 7) has no entry 'none'\n";
-    assert_eq!(shown(&words, "none", "0"), (Some(7), String::new(), told.to_string()));
-    let told = "tapermoss: the original image answered: the path 'letters>Old' is a dangling entry: what it names is no file\n";
-    assert_eq!(shown(&words, "letters>Old", "0"), (Some(7), String::new(), told.to_string()));
-    let told = "tapermoss: refused (7): block 4160 is beyond what file 9 can have\n";
-    assert_eq!(shown(&words, first, "4160"), (Some(1), String::new(), told.to_string()));
-}
-
-#[test]
-fn where_the_repaired_image_has_no_file_at_a_path_the_original_answers() {
-    let line = format!("the original image answered: block 1 of file 9 is block {}", at(9, 1));
-    let changes: [Change; 4] = [
-        // Destroyed: the entry dangles.
-        &|image| _ = reference::destroy(image, FLOPPY, S, 9, ALL),
-        // The root is none.
-        &|image| set_root(image, S, 0),
-        &|image| image.clear(),
-        &|image| image.truncate(1_000),
-    ];
-    for change in changes {
-        let (_folder, words) = pair(change);
-        let answer = shown(&words, "letters>first.text", "1");
-        assert_eq!(answer, (Some(0), line.clone(), String::new()));
-    }
-}
-
-#[test]
-fn path_and_block_are_of_one_image() {
-    // In the repaired image the entry `letters` is not there any more, and file 9 is another one.
-    let (_folder, words) = pair(|image| {
-        reference::write(image, FLOPPY, S, 7, 0, &[0; 512], ALL);
-        reference::write(image, FLOPPY, S, 9, 0, &[b'N'; 512], ALL);
-    });
-    let (status, _, told) = shown(&words, "letters>first.text", "0");
-    assert_eq!(status, Some(7));
-    assert_eq!(told, "tapermoss: the repaired image answered: the path 'letters>first.text' is not there: the root directory (block 7) has no entry 'letters'\n");
-    // Its root is none: the path is the original's, and so is the block, though the repaired image has a file 9 too.
-    let (folder, words) = pair(|image| {
-        set_root(image, S, 0);
-        reference::write(image, FLOPPY, S, 9, 0, &[b'N'; 512], ALL);
-    });
-    let words: Vec<&str> = words.iter().map(String::as_str).collect();
-    let line = [&words[..], &["--path", "letters>first.text", "--block", "0", "--raw"]].concat();
-    assert!(tapermoss(&line).stdout == [b'T'; 512]);
-    let line = [&words[..], &["--file", "9", "--block", "0", "--raw"]].concat();
-    assert!(tapermoss(&line).stdout == [b'N'; 512]);
-    drop(folder);
-}
-
-#[test]
-fn where_both_images_of_a_pair_refuse_a_path_the_sentence_is_the_original_s() {
-    let folder = Folder::new();
-    let mut rootless = letters().image;
-    set_root(&mut rootless, S, 0);
-    let [rootless, empty, ten] =
-        [("rootless", rootless), ("empty", Vec::new()), ("ten", chain(10).image)]
-            .map(|(name, bytes)| folder.put(name, &bytes));
-    let show = |original, repaired, path| {
-        ["show", "--original", original, "--repaired", repaired, "--path", path, "--block", "0"]
-    };
-    let no_root =
-        "refused (6): the partition at block 6 has no root directory: its RootDirectoryID is nil";
-    fails(&show(&rootless, &empty, "x"), no_root);
-    fails(&show(&empty, &rootless, "x"), "refused (1): the image is empty");
-    let (nine, deeper) = (["D"; 9].join(">"), ["D"; 10].join(">"));
-    fails(&show(&rootless, &ten, &deeper), no_root);
-    let text = tapermoss(&show(&empty, &ten, &nine));
-    assert_eq!(text.status.code(), Some(7), "file 16 has no block: {text:?}");
-    assert!(text.stdout.starts_with(b"the repaired image answered: file 16 has no block 0"));
 }

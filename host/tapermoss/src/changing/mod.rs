@@ -74,6 +74,7 @@ impl FileArguments {
         &self,
         work: impl FnOnce(&mut Changing, u32) -> Result<(String, Value), Problem>,
     ) -> Result<Told, Problem> {
+        self.file.must_not_be_empty()?;
         self.change.carry_out(|image| {
             let file = self.file.find(&image.bytes, image.drive, image.s)?;
             work(image, file)

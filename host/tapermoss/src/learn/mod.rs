@@ -1,222 +1,27 @@
-//! Learning the hash rule: which weights most entries of directories agree with. The hash of a name of n characters c1 .. cn
-//! is w0*n + w1*c1 + .. + wn*cn modulo 31, so every entry is a linear equation for the weights over the field of 31 elements.
-//!
-//! Where no entry contradicts another one, elimination has the answer. Else rules are tried: each is solved from as many
-//! independent entries as there are, drawn by chance with a fixed seed, and is scored by how many entries agree with it.
-//! Short names need few weights, so a first rule is put together from short to long, each step chosen by the most votes.
+//! Learning the hash rule: which weights most entries of directories agree with, and how much is to be made of that. The hash
+//! of a name of n characters c1 .. cn is w0*n + w1*c1 + .. + wn*cn modulo 31, so every entry is a linear equation for the
+//! weights over the field of 31 elements.
 
+mod search;
 mod solved;
 
 pub use solved::{Equation, Weights, WEIGHTS};
 
-use solved::Solved;
+use search::{Best, Entries, LONGEST};
 use std::collections::BTreeSet;
-use std::ops::Range;
 
-/// The longest name, and the last weight.
-pub const LONGEST: usize = WEIGHTS - 1;
-/// How many rules are tried for a step of the first one, and how many after it. Fewer where there are many entries.
-const VOTES: usize = 200;
-const TRIALS: usize = 10_000;
-/// How many entries the trials may look at in all.
-const LOOKS: usize = 40_000_000;
+/// So many entries that could have failed confirm a rule that all agree with.
+const CONFIRMING: usize = 4;
+/// Weights of 0 put every name into blocks 0, 31, 62 and so on. If no more than one agreeing entry of so many stands
+/// elsewhere, the entries say nothing of the rule.
+const ELSEWHERE: usize = 20;
 
-/// Numbers by chance, always the same ones (splitmix64).
-struct Chance(u64);
-
-impl Chance {
-    fn below(&mut self, bound: usize) -> usize {
-        self.0 = self.0.wrapping_add(0x9E37_79B9_7F4A_7C15);
-        let mixed = (self.0 ^ (self.0 >> 30)).wrapping_mul(0xBF58_476D_1CE4_E5B9);
-        let mixed = (mixed ^ (mixed >> 27)).wrapping_mul(0x94D0_49BB_1331_11EB);
-        ((mixed ^ (mixed >> 31)) % bound as u64) as usize
-    }
-}
-
-/// The last that is true.
-fn last(of: &[bool]) -> Option<usize> {
-    of.iter().rposition(|&it| it)
-}
-
-/// All entries, sorted by their reach.
-struct Entries {
-    all: Vec<Equation>,
-    /// Where those of each reach begin, and the end.
-    starts: [usize; WEIGHTS + 1],
-    /// How many independent ones reach at most so far.
-    ranks: [usize; WEIGHTS],
-    /// All of them in order, without what contradicts those before it.
-    plain: Solved,
-}
-
-impl Entries {
-    fn of(equations: &[Equation]) -> Entries {
-        let mut all = equations.to_vec();
-        all.sort_unstable();
-        let mut starts = [0; WEIGHTS + 1];
-        let (mut ranks, mut plain) = ([0; WEIGHTS], Solved::default());
-        for n in 0..WEIGHTS {
-            starts[n + 1] = all.partition_point(|equation| equation.reach <= n);
-            all[starts[n]..starts[n + 1]].iter().for_each(|equation| _ = plain.take(equation));
-            ranks[n] = plain.rank;
-        }
-        Entries { all, starts, ranks, plain }
-    }
-
-    /// Those of a range of reaches.
-    fn within(&self, reaches: &Range<usize>) -> &[Equation] {
-        &self.all[self.starts[reaches.start]..self.starts[reaches.end]]
-    }
-
-    /// The entries that reach at most n, in order, without what contradicts those before it.
-    fn up_to(&self, n: usize) -> Solved {
-        let mut solved = Solved::default();
-        self.within(&(0..n + 1)).iter().for_each(|entry| _ = solved.take(entry));
-        solved
-    }
-
-    /// Takes in entries of these reaches that are drawn by chance, a reach first and then one of its entries, until they
-    /// settle all that the entries up to there do. What chance does not find soon is taken in order.
-    fn draw(
-        &self,
-        solved: &mut Solved,
-        reaches: Range<usize>,
-        chance: &mut Chance,
-        liked: impl Fn(&Equation) -> bool,
-    ) {
-        let wanted = self.ranks[reaches.end - 1];
-        let there: Vec<&[Equation]> = reaches
-            .clone()
-            .map(|n| self.within(&(n..n + 1)))
-            .filter(|entries| !entries.is_empty())
-            .collect();
-        for _ in 0..16 * (wanted - solved.rank) {
-            if solved.rank == wanted {
-                return;
-            }
-            let entries = there[chance.below(there.len())];
-            let entry = &entries[chance.below(entries.len())];
-            if liked(entry) || chance.below(8) == 0 {
-                solved.take(entry);
-            }
-        }
-        for entry in self.within(&reaches).iter().rev() {
-            if solved.rank == wanted {
-                return;
-            }
-            solved.take(entry);
-        }
-    }
-
-    /// Ranges of reaches, ascending, with entries enough in each that the wrong ones can be outvoted.
-    fn steps(&self) -> Vec<Range<usize>> {
-        let (mut steps, mut first) = (Vec::new(), 0_usize);
-        for n in 0..WEIGHTS {
-            let before = first.checked_sub(1).map_or(0, |last| self.ranks[last]);
-            let (new, entries) = (self.ranks[n] - before, self.within(&(first..n + 1)).len());
-            if new > 0 && entries >= 4 * new || n == LONGEST && entries > 0 {
-                steps.push(first..n + 1);
-                first = n + 1;
-            }
-        }
-        steps
-    }
-
-    /// The first rule: for each step the choice that most of its entries agree with.
-    fn voted(&self, chance: &mut Chance) -> Weights {
-        let mut fixed = Solved::default();
-        for step in self.steps() {
-            let choices = (0..VOTES).map(|_| {
-                let mut solved = fixed.clone();
-                self.draw(&mut solved, step.clone(), chance, |_| true);
-                solved
-            });
-            let missed = |solved: &Solved| {
-                let weights = solved.weights();
-                self.within(&step).iter().filter(|entry| !entry.holds(&weights)).count()
-            };
-            fixed = choices.min_by_key(missed).expect("some votes");
-        }
-        fixed.weights()
-    }
-
-    /// How many entries do not agree; none if they are more than `most`.
-    fn missed(&self, weights: &Weights, most: usize) -> Option<usize> {
-        let wrong = self.all.iter().filter(|entry| !entry.holds(weights));
-        let missed = wrong.take(most + 1).count();
-        (missed <= most).then_some(missed)
-    }
-
-    /// Up to which reach it is certain that no other rule agrees with as many entries. Of the entries that agree, sets
-    /// are laid apart, one more than there are entries that do not, and each settles all that the entries up to that reach
-    /// do. Any rule that differs there disagrees with one of every set, and loses more entries than it can win.
-    fn certain_to(&self, weights: &Weights, missed: usize) -> Option<usize> {
-        let agrees = |entry: &&Equation| entry.holds(weights);
-        let mut left: Vec<Vec<Equation>> = (0..WEIGHTS)
-            .map(|n| self.within(&(n..n + 1)).iter().filter(agrees).copied().collect())
-            .collect();
-        let mut is_settled = [true; WEIGHTS];
-        for _ in 0..=missed {
-            let mut set = Solved::default();
-            for n in 0..=last(&is_settled)? {
-                left[n].retain(|entry| set.rank == self.ranks[n] || !set.take(entry));
-                is_settled[n] &= set.rank == self.ranks[n];
-            }
-        }
-        last(&is_settled)
-    }
-
-    fn search(&self) -> Best {
-        let mut chance = Chance(0);
-        let mut best = Best::new(self, self.plain.weights());
-        if best.certain_to == Some(LONGEST) {
-            return best;
-        }
-        best.meet(self, self.voted(&mut chance));
-        for trial in 0..TRIALS.min(LOOKS / self.all.len()).max(VOTES) {
-            if best.certain_to == Some(LONGEST) {
-                break;
-            }
-            let mut solved = Solved::default();
-            // Every other rule is drawn near the best one.
-            let liked = |entry: &Equation| trial % 2 == 0 || entry.holds(&best.weights);
-            self.draw(&mut solved, 0..WEIGHTS, &mut chance, liked);
-            best.meet(self, solved.weights());
-        }
-        best
-    }
-}
-
-/// The best rule so far.
-struct Best {
-    weights: Weights,
-    missed: usize,
-    certain_to: Option<usize>,
-    /// Another one that is as good.
-    rival: Option<Weights>,
-}
-
-impl Best {
-    fn new(entries: &Entries, weights: Weights) -> Best {
-        let missed = entries.missed(&weights, entries.all.len()).expect("no more than all");
-        Best { weights, missed, certain_to: entries.certain_to(&weights, missed), rival: None }
-    }
-
-    fn meet(&mut self, entries: &Entries, weights: Weights) {
-        match entries.missed(&weights, self.missed) {
-            Some(missed) if missed < self.missed => *self = Best::new(entries, weights),
-            Some(_) if weights != self.weights => _ = self.rival.get_or_insert(weights),
-            _ => {}
-        }
-    }
-}
-
-/// How far it is certain that a rule is the best.
+/// How far no other rule agrees with as many entries.
 #[derive(Clone, Copy, Debug, PartialEq, Eq)]
 pub enum Certain {
-    /// No rule that places any of the entries otherwise agrees with as many.
+    /// None that places any of the entries otherwise.
     All,
-    /// No rule that places any name of at most so many characters otherwise agrees with as many.
+    /// None that places any name of at most so many characters otherwise.
     Names(usize),
     /// It is the best that was found.
     Nothing,
@@ -227,19 +32,83 @@ pub enum Certain {
 pub struct Learnt {
     /// What is not settled in them is 0, or one choice that fits.
     pub weights: Weights,
+    /// How many entries agree, and how many of these stand in blocks 0, 31, 62 and so on.
+    pub agreeing: usize,
+    pub in_block_0: usize,
     /// How many independent equations the entries are.
     pub independent: usize,
-    /// How many different ones agree beyond those.
+    /// How many different ones agree beyond those: each could have failed.
     pub confirming: usize,
-    /// The weights that have the same value in every rule that the same entries agree with.
+    /// How many of them confirm a rule.
+    pub wanted: usize,
+    /// The weights that have the same value in every rule that the same entries agree with, and in all rivals. None where the
+    /// entries say nothing of the rule.
     pub settled: Vec<usize>,
     /// The weights that no entry says anything of.
     pub untold: Vec<usize>,
-    /// Every rule that the same entries agree with places all names of at most so many characters alike; 0 for none.
+    /// The settled weights place all names of at most so many characters; 0 for none.
     pub placed_to: usize,
+    /// How far no other rule agrees with as many, confirmed or not.
+    pub best: Certain,
+    /// The same as far as it is confirmed; nothing where the entries say nothing of the rule.
     pub certain: Certain,
-    /// Another rule that as many entries agree with.
-    pub rival: Option<Weights>,
+    /// The other rules that were found with as many entries that agree.
+    pub rivals: BTreeSet<Weights>,
+}
+
+impl Learnt {
+    /// Whether the zero rule would do, whatever the real one is.
+    pub fn says_nothing(&self) -> bool {
+        ELSEWHERE * (self.agreeing - self.in_block_0) <= self.agreeing
+    }
+
+    pub fn is_confirmed(&self) -> bool {
+        self.confirming >= self.wanted && !self.says_nothing()
+    }
+
+    /// Whether a weight has another value in a rival.
+    pub fn is_disputed(&self, i: usize) -> bool {
+        self.rivals.iter().any(|rival| rival[i] != self.weights[i])
+    }
+
+    /// Says what is settled and certain, where the entries say anything of that.
+    fn judge(&mut self, entries: &Entries, certain_to: Option<usize>) {
+        self.best = match certain_to.map(|n| entries.up_to(n).places_to()) {
+            _ if certain_to == Some(LONGEST) => Certain::All,
+            None | Some(0) => Certain::Nothing,
+            Some(most) => Certain::Names(most),
+        };
+        if self.says_nothing() {
+            return;
+        }
+        let is_settled = |&i: &usize| entries.plain.settles(i) && !self.is_disputed(i);
+        self.settled = (0..WEIGHTS).filter(is_settled).collect();
+        let in_a_row = self.settled.iter().zip(0..).take_while(|(&weight, i)| weight == *i);
+        self.placed_to = in_a_row.count().saturating_sub(1);
+        // Names up to a length are certain if they confirm each other, besides the whole being confirmed.
+        let is_confirmed = |n| {
+            let (confirming, wanted) = confirmation(entries, &self.weights, n);
+            confirming >= wanted
+        };
+        if self.is_confirmed() && certain_to.is_some_and(is_confirmed) {
+            self.certain = self.best;
+        }
+    }
+}
+
+/// How many different entries that reach at most n agree beyond the independent ones, and how many are wanted.
+fn confirmation(entries: &Entries, weights: &Weights, n: usize) -> (usize, usize) {
+    let different: BTreeSet<&Equation> =
+        entries.all.iter().filter(|entry| entry.reach <= n).collect();
+    let agreeing = different.iter().filter(|entry| entry.holds(weights)).count();
+    (agreeing - entries.ranks[n], wanted(agreeing, different.len() - agreeing))
+}
+
+/// How many entries must confirm a rule. Where some do not agree, the search has chosen which ones these are, and among that
+/// many choices chance finds a rule too: every entry agrees with it in one case of 31, so each factor of 31 wants one more.
+fn wanted(agreeing: usize, missed: usize) -> usize {
+    let choices: f64 = (1..=missed).map(|i| ((agreeing + i) as f64 / i as f64).ln()).sum();
+    CONFIRMING + (choices / 31_f64.ln()).ceil() as usize
 }
 
 /// Learns from entries; from none there is nothing to be learnt.
@@ -248,23 +117,23 @@ pub fn learn(equations: &[Equation]) -> Option<Learnt> {
         return None;
     }
     let entries = Entries::of(equations);
-    let Best { weights, certain_to, rival, .. } = entries.search();
-    let plain = &entries.plain;
-    let agreeing = entries.all.iter().filter(|entry| entry.holds(&weights));
-    let different = agreeing.collect::<BTreeSet<&Equation>>().len();
-    let certain = match certain_to.map(|n| entries.up_to(n).places_to()) {
-        _ if certain_to == Some(LONGEST) => Certain::All,
-        None | Some(0) => Certain::Nothing,
-        Some(most) => Certain::Names(most),
-    };
-    Some(Learnt {
+    let Best { weights, certain_to, rivals, .. } = entries.search();
+    let (confirming, wanted) = confirmation(&entries, &weights, LONGEST);
+    let agreeing = || entries.all.iter().filter(|entry| entry.holds(&weights));
+    let mut learnt = Learnt {
         weights,
-        independent: plain.rank,
-        confirming: different - plain.rank,
-        settled: (0..WEIGHTS).filter(|&i| plain.settles(i)).collect(),
+        agreeing: agreeing().count(),
+        in_block_0: agreeing().filter(|entry| entry.stands_at_0()).count(),
+        independent: entries.plain.rank,
+        confirming,
+        wanted,
+        settled: Vec::new(),
         untold: (0..WEIGHTS).filter(|&i| entries.all.iter().all(|e| e.left[i] == 0)).collect(),
-        placed_to: plain.places_to(),
-        certain,
-        rival,
-    })
+        placed_to: 0,
+        best: Certain::Nothing,
+        certain: Certain::Nothing,
+        rivals,
+    };
+    learnt.judge(&entries, certain_to);
+    Some(learnt)
 }

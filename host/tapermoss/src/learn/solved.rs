@@ -37,6 +37,11 @@ impl Equation {
         self.hash(weights) == self.right
     }
 
+    /// Whether the entry stands in block 0, 31, 62 or so on, where weights of 0 put every name.
+    pub fn stands_at_0(&self) -> bool {
+        self.right == 0
+    }
+
     /// Adds another one so many times.
     fn add(&mut self, other: &Equation, times: u16) {
         let sum = |one: u8, other: u8| ((u16::from(one) + times * u16::from(other)) % FIELD) as u8;

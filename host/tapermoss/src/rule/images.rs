@@ -14,7 +14,7 @@ use crate::problem::Problem;
 use crate::rows;
 use crate::told::{joined, reported};
 use crate::volume;
-use perq::{Drive, Rule, DATA};
+use perq::{Drive, Refusal, Rule, DATA};
 use serde_json::{json, Value};
 use std::path::Path;
 
@@ -52,7 +52,9 @@ struct Part {
     directories: u32,
     malformed: Vec<u32>,
     entries: Vec<Entry>,
-    /// Why it was not looked at, or not at its root.
+    /// That it has no root, and what was looked at then.
+    rootless: Option<String>,
+    /// Why it was not looked at.
     problem: Option<Problem>,
 }
 
@@ -60,14 +62,15 @@ impl Part {
     fn of(image: &[u8], drive: Drive, place: &Place) -> Part {
         let (malformed, entries) = (Vec::new(), Vec::new());
         let problem = place.problem();
-        let mut part = Part { place: *place, directories: 0, malformed, entries, problem };
+        let place = *place;
+        let mut part = Part { place, directories: 0, malformed, entries, rootless: None, problem };
         if part.problem.is_none() {
             part.problem = part.look(image, drive).err();
         }
         part
     }
 
-    /// Reads every directory that is a file: without a root, the others.
+    /// Reads the root and all files that are directories by their type: without a root, these alone.
     fn look(&mut self, image: &[u8], drive: Drive) -> Result<(), Problem> {
         let s = self.place.s;
         let refused = |refusal| Asked::of(image, drive, s).refused(refusal);
@@ -85,18 +88,31 @@ impl Part {
                 self.directories += 1;
             }
         }
-        root.map(|_| ())
+        match root {
+            Err(problem) if problem.number == Some(Refusal::NoFile.number()) => {
+                self.rootless = Some(rootless(&problem));
+                Ok(())
+            }
+            other => other.map(|_| ()),
+        }
     }
 
     fn as_json(&self) -> Value {
         let outcome = self.problem.as_ref().map_or(Outcome::Done, |problem| problem.outcome);
         let own = json!({
             "directories": self.directories, "entries": self.entries.len(),
-            "malformed": self.malformed,
+            "malformed": self.malformed, "rootless": self.rootless,
         });
         let place = self.place.as_json();
         joined(joined(reported(outcome, self.problem.as_ref()), &place), &own)
     }
+}
+
+/// What is said of a partition without a root, which is no refusal here.
+fn rootless(problem: &Problem) -> String {
+    let refused = format!("refused ({}): ", Refusal::NoFile.number());
+    let told = problem.sentence.strip_prefix(&refused).unwrap_or(&problem.sentence);
+    format!("{told}; its directories are found by their file type")
 }
 
 /// An image that was looked at.
@@ -150,6 +166,8 @@ impl Image<'_> {
     pub fn asides(&self) -> Vec<String> {
         let name = shown(self.path);
         let problem = |problem: &Problem| format!("tapermoss: {name}: {}", problem.sentence);
+        let rootless = self.parts().iter().flat_map(|part| &part.rootless);
+        let remarks = rootless.map(|told| format!("{name}: {told}"));
         let malformed = self.parts().iter().flat_map(|part| &part.malformed);
         let passed = malformed.map(|block| {
             format!("{name}: block {block} is a malformed file block, which is passed over")
@@ -157,7 +175,7 @@ impl Image<'_> {
         let not_taken = self.not_taken().map(|(place, by)| {
             format!("{name}: block {} {}: it is not taken for one", place.s, rows::mention(by))
         });
-        self.problems().map(problem).chain(passed).chain(not_taken).collect()
+        self.problems().map(problem).chain(remarks).chain(passed).chain(not_taken).collect()
     }
 
     pub fn as_json(&self) -> Value {

@@ -1,20 +1,14 @@
 //! What is said of the rule, as remarks and as JSON.
 
 use super::images::{Entry, Image};
-use crate::fields::escaped;
-use crate::hashing::written;
+use super::table::{self, table, Wrong};
+use super::warnings::{self, most_disagree, warnings};
 use crate::learn::{learn, Certain, Equation, Learnt, WEIGHTS};
-use crate::names::{hex, name_bytes, shown};
 use crate::outcome::Outcome;
 use crate::problem::Problem;
 use serde_json::{json, Value};
 use std::collections::BTreeSet;
 use std::path::Path;
-
-/// What is said where the block is a multiple of 31 in all equations.
-const ALL_IN_BLOCK_0: &str = "\
-all entries stand in blocks 0, 31, 62 and so on, where weights of 0 put every name: directories of one block look like this \
-by any rule";
 
 /// Entries with the images that they are from, and what is learnt from them.
 pub struct Found<'a> {
@@ -22,9 +16,6 @@ pub struct Found<'a> {
     entries: Vec<(&'a Path, &'a Entry)>,
     pub learnt: Option<Learnt>,
 }
-
-/// An entry that stands where the rule does not put it: its image, the entry, its block modulo 31 and its hash.
-pub type Wrong<'a> = (&'a Path, &'a Entry, u32, u8);
 
 impl<'a> Found<'a> {
     pub fn of(images: &'a [Image]) -> Found<'a> {
@@ -54,50 +45,36 @@ impl<'a> Found<'a> {
     }
 
     /// What keeps the rule from being one that a person need not think about.
-    pub fn problem(&self) -> Option<Problem> {
-        let new = |outcome, told: &str| Some(Problem::new(outcome, told.to_string()));
-        match &self.learnt {
-            None => new(
-                Outcome::Absent,
-                "nothing can be learnt: no directory that was read has a valid entry",
-            ),
-            Some(Learnt { rival: Some(_), .. }) => {
-                new(Outcome::SetAside, "as many entries agree with another rule as with this one")
-            }
-            _ => None,
-        }
+    pub fn problems(&self) -> Vec<Problem> {
+        let Some(learnt) = &self.learnt else {
+            let told = "nothing can be learnt: no directory that was read has a valid entry";
+            return vec![Problem::new(Outcome::Absent, told.to_string())];
+        };
+        let for_a_person = warnings::for_a_person(learnt).into_iter();
+        for_a_person.map(|told| Problem::new(Outcome::SetAside, told)).collect()
     }
 
-    /// What is said of the rule, a line each.
+    /// What is said of the rule besides the warnings, a line each.
     pub fn remarks(&self, learnt: &Learnt, wrong: &[Wrong]) -> Vec<String> {
         let (directories, images) = self.sources();
-        let agreeing = self.entries.len() - wrong.len();
         let sources = format!(
-            "{} of {} in {}: {agreeing} agree, {} do not",
+            "{} of {} in {}: {} agree, {} do not",
             several(self.entries.len(), "entry", "entries"),
             several(directories, "directory", "directories"),
             several(images, "image", "images"),
+            learnt.agreeing,
             wrong.len()
         );
         let equations =
             several(learnt.independent, "independent equation", "independent equations");
-        let confirmed = match learnt.confirming {
-            0 => "confirmed by no other: some rule fits any such equations".to_string(),
-            more => format!("confirmed by {more} different further ones"),
-        };
-        let mut lines = vec![sources, format!("{equations} for 26 weights, {confirmed}")];
-        lines.extend(of_weights(learnt));
-        lines.push(of_certainty(learnt));
-        if wrong.len() > agreeing {
-            lines.push(
-                "most entries do not agree: they may follow no rule of this form".to_string(),
-            );
+        let further = several(learnt.confirming, "different further one", "different further ones");
+        let confirmed =
+            if learnt.is_confirmed() { format!(", confirmed by {further}") } else { String::new() };
+        let mut lines = vec![sources, format!("{equations} for 26 weights{confirmed}")];
+        if !learnt.says_nothing() {
+            lines.extend(of_weights(learnt));
+            lines.extend(of_certainty(learnt));
         }
-        if self.entries.iter().all(|(_, entry)| entry.block % 31 == 0) {
-            lines.push(ALL_IN_BLOCK_0.to_string());
-        }
-        let rival = |rival| format!("as many entries agree with {}", written(rival));
-        lines.extend(learnt.rival.as_ref().map(rival));
         lines.extend(table(wrong));
         lines
     }
@@ -107,44 +84,60 @@ impl<'a> Found<'a> {
         let learnt = self.learnt.as_ref();
         let wrong = learnt.map(|learnt| self.wrong(learnt)).unwrap_or_default();
         let (directories, images) = self.sources();
-        let certain_to = |learnt: &Learnt| match learnt.certain {
-            Certain::All => learnt.placed_to,
-            Certain::Names(most) => most,
-            Certain::Nothing => 0,
-        };
         json!({
             "weights": learnt.map(|it| it.weights),
             "entries": self.entries.len(),
             "directories": directories,
             "images_with_entries": images,
-            "agreeing": self.entries.len() - wrong.len(),
-            "disagreeing": wrong.iter().map(wrong_as_json).collect::<Vec<_>>(),
+            "agreeing": learnt.map_or(0, |it| it.agreeing),
+            "disagreeing": wrong.iter().map(table::as_json).collect::<Vec<_>>(),
             "independent": learnt.map(|it| it.independent),
             "confirming": learnt.map(|it| it.confirming),
+            "wanted": learnt.map(|it| it.wanted),
+            "confirmed": learnt.map(Learnt::is_confirmed),
             "settled": learnt.map(|it| &it.settled),
             "untold": learnt.map(|it| &it.untold),
             "placed_to": learnt.map(|it| it.placed_to),
             "certain": learnt.map(|it| it.certain == Certain::All),
             "certain_to": learnt.map(certain_to),
-            "rival": learnt.and_then(|it| it.rival),
+            "rival": learnt.and_then(|it| it.rivals.first()),
+            "rivals": learnt.map(|it| it.rivals.len()),
+            "only_block_0": learnt.map(Learnt::says_nothing),
+            "most_disagree": learnt.map(|it| most_disagree(it, &wrong)),
+            "warnings": learnt.map_or(Vec::new(), |it| warnings(it, &wrong)),
             "images": self.images.iter().map(Image::as_json).collect::<Vec<_>>(),
         })
     }
 }
 
-fn several(number: usize, one: &str, more: &str) -> String {
+/// Up to how many characters of a name the rule is certain.
+fn certain_to(learnt: &Learnt) -> usize {
+    match learnt.certain {
+        Certain::All => learnt.placed_to,
+        Certain::Names(most) => most,
+        Certain::Nothing => 0,
+    }
+}
+
+pub fn several(number: usize, one: &str, more: &str) -> String {
     format!("{number} {}", if number == 1 { one } else { more })
 }
 
 /// Which weights are settled, and what that means for names.
 fn of_weights(learnt: &Learnt) -> Vec<String> {
-    let Learnt { settled, untold, placed_to, .. } = learnt;
+    let Learnt { settled, untold, .. } = learnt;
     let open: Vec<usize> = (0..WEIGHTS).filter(|i| !settled.contains(i)).collect();
-    let chosen: Vec<usize> = open.iter().copied().filter(|i| !untold.contains(i)).collect();
     if open.is_empty() {
         return vec!["all weights are settled".to_string()];
     }
+    let (disputed, rest): (Vec<usize>, Vec<usize>) =
+        open.iter().partition(|&&i| learnt.is_disputed(i));
+    let chosen: Vec<usize> = rest.into_iter().filter(|i| !untold.contains(i)).collect();
     let mut lines = vec![format!("settled: {}; not settled: {}", listed(settled), listed(&open))];
+    if !disputed.is_empty() {
+        lines
+            .push(format!("rules that as many entries agree with differ in {}", listed(&disputed)));
+    }
     if !untold.is_empty() {
         lines.push(format!("no entry tells of {}: printed as 0", listed(untold)));
     }
@@ -154,27 +147,43 @@ fn of_weights(learnt: &Learnt) -> Vec<String> {
             "too few entries tell of {chosen}: printed is one choice of those that fit"
         ));
     }
-    lines.push(match placed_to {
-        0 => "the rules that fit the entries that agree place these alike, other names perhaps not".to_string(),
-        most => format!(
-            "the rules that fit the entries that agree place names of at most {} alike, longer ones perhaps not",
-            several(*most, "character", "characters")
-        ),
-    });
+    lines.extend(of_names(learnt));
     lines
 }
 
-fn of_certainty(learnt: &Learnt) -> String {
-    match learnt.certain {
-        Certain::All => {
-            "certain: no rule that places one of these entries otherwise agrees with as many".to_string()
+/// Which names the rules place alike.
+fn of_names(learnt: &Learnt) -> Option<String> {
+    let rules = match learnt.rivals.len() {
+        0 => "the rules that fit the entries that agree",
+        _ => "these rules and those that fit the same entries",
+    };
+    match learnt.placed_to {
+        0 if learnt.rivals.is_empty() => {
+            Some(format!("{rules} place these alike, other names perhaps not"))
         }
-        Certain::Names(most) => format!(
+        0 => None,
+        most => Some(format!(
+            "{rules} place names of at most {} alike, longer ones perhaps not",
+            several(most, "character", "characters")
+        )),
+    }
+}
+
+/// A rule that is the best there is but not confirmed has its warning, and nothing is to be added to that.
+fn of_certainty(learnt: &Learnt) -> Option<String> {
+    match (learnt.certain, learnt.best) {
+        (Certain::All, _) => Some(
+            "certain: no rule that places one of these entries otherwise agrees with as many".to_string(),
+        ),
+        (Certain::Names(most), _) => Some(format!(
             "certain for names of at most {}: no rule that places one of them otherwise agrees with as many entries; \
              for longer names the best that was found",
             several(most, "character", "characters")
-        ),
-        Certain::Nothing => "the best rule that was found; a better one is not excluded".to_string(),
+        )),
+        (Certain::Nothing, Certain::All) => None,
+        (Certain::Nothing, _) => {
+            Some("the best rule that was found; a better one is not excluded".to_string())
+        }
     }
 }
 
@@ -190,33 +199,4 @@ fn listed(weights: &[usize]) -> String {
     } else {
         runs.join(", ")
     }
-}
-
-/// The entries that do not agree.
-fn table(wrong: &[Wrong]) -> Vec<String> {
-    if wrong.is_empty() {
-        return Vec::new();
-    }
-    let mut lines = vec![
-        "these do not agree: their block modulo 31 is not their hash".to_string(),
-        "partition  directory  block  place  mod 31  hash  name                       image"
-            .to_string(),
-    ];
-    for (path, entry, stands, hash) in wrong {
-        let Entry { partition, directory, block, place, name } = entry;
-        let (name, image) = (escaped(name), shown(path));
-        lines.push(format!(
-            "{partition:>9}  {directory:>9}  {block:>5}  {place:>5}  {stands:>6}  {hash:>4}  {name:<25}  {image}"
-        ));
-    }
-    lines
-}
-
-fn wrong_as_json((path, entry, stands, hash): &Wrong) -> Value {
-    json!({
-        "image": shown(path), "image_bytes": name_bytes(path), "partition": entry.partition,
-        "directory": entry.directory, "block": entry.block, "place": entry.place,
-        "name": escaped(&entry.name), "name_bytes": hex(&entry.name),
-        "stands": stands, "hash": hash,
-    })
 }

@@ -2,9 +2,11 @@
 #![allow(dead_code)] // each test program uses a part of this
 
 pub mod planted;
+pub mod rules;
 
 use reference::image::{HEADER, RECORD};
 use reference::sample::scattered;
+use serde_json::Value;
 use std::ffi::CString;
 use std::fs;
 use std::os::unix::ffi::OsStrExt;
@@ -66,6 +68,13 @@ pub fn misused(arguments: &[&str]) -> String {
     assert_eq!(output.status.code(), Some(2), "{arguments:?}: {output:?}");
     assert!(output.stdout.is_empty(), "{arguments:?}");
     String::from_utf8(output.stderr).expect("text")
+}
+
+/// The object that a command prints.
+#[track_caller]
+pub fn object(arguments: &[&str]) -> Value {
+    let output = tapermoss(&[arguments, &["--json"]].concat());
+    serde_json::from_slice(&output.stdout).unwrap_or_else(|error| panic!("{error}: {output:?}"))
 }
 
 /// What a run has said on standard error.

@@ -5,6 +5,7 @@ use super::FLOPPY;
 use reference::tree_sample::{plant, Line, Names, Node, Tree};
 
 pub const S: u32 = 6;
+const E: u32 = 431;
 
 /// What joins the names of a path.
 const JOINT: u8 = b'>';
@@ -21,8 +22,13 @@ pub struct Entry {
     pub lbn: Option<u32>,
     pub level: usize,
     pub what: &'static str,
+    /// What a dangling one holds, and the block if it is one's address.
+    pub held: Option<(&'static str, Option<u32>)>,
     pub name: Vec<u8>,
-    pub path: Vec<u8>,
+    /// The names down to it, joined.
+    pub joined: Vec<u8>,
+    /// Why this is no path that leads to it.
+    pub no_path: Option<&'static str>,
 }
 
 /// What a path leads to.
@@ -74,7 +80,7 @@ pub fn chain(levels: usize) -> Planted {
 
 impl Planted {
     pub fn of(tree: Tree) -> Planted {
-        let image = plant(&tree, FLOPPY, 432, S, 431);
+        let image = plant(&tree, FLOPPY, 432, S, E);
         Planted { tree, image }
     }
 
@@ -85,7 +91,7 @@ impl Planted {
     }
 
     /// The lines of a node that are to be taken, by block and place.
-    fn taken(&self, node: usize) -> Vec<&Line> {
+    pub fn taken(&self, node: usize) -> Vec<&Line> {
         let places = self.tree.places(node).into_iter();
         let mut lines: Vec<_> = places.zip(&self.tree.nodes[node].lines).collect();
         lines.sort_by_key(|(place, _)| *place);
@@ -105,19 +111,21 @@ impl Planted {
     /// All entries, the first `most` of them at most, and whether these are all; or the first directory of the tenth level.
     pub fn entries(&self, most: usize) -> Result<(Vec<Entry>, bool), u32> {
         let mut entries = Vec::new();
-        let complete = self.walk(0, &[], most, &mut entries)?;
+        let complete = self.walk(0, &[], true, most, &mut entries)?;
         Ok((entries, complete))
     }
 
-    /// The entries below a node, after the names that lead to it; answers whether none was left out.
+    /// The entries below a node, after the names that lead to it, or do not; answers whether none was left out.
     fn walk(
         &self,
         node: usize,
         above: &[&[u8]],
+        leads: bool,
         most: usize,
         entries: &mut Vec<Entry>,
     ) -> Result<bool, u32> {
-        for line in self.taken(node) {
+        let lines = self.taken(node);
+        for (i, line) in lines.iter().enumerate() {
             if entries.len() == most {
                 return Ok(false);
             }
@@ -131,11 +139,14 @@ impl Planted {
                 (None, Some(_)) => "file",
                 (None, None) => "dangling",
             };
-            let (name, path) = (line.name.clone(), names.join(&JOINT));
-            entries.push(Entry { lbn, level: names.len(), what, name, path });
+            let no_path = no_path(&lines[..i], line, leads);
+            let (name, joined) = (line.name.clone(), names.join(&JOINT));
+            let held = lbn.is_none().then(|| held(line.names));
+            entries.push(Entry { lbn, level: names.len(), what, held, name, joined, no_path });
+            let leads = no_path.is_none();
             match below {
                 Some(i) if names.len() == 9 => return Err(self::lbn(i)),
-                Some(i) if !self.walk(i, &names, most, entries)? => return Ok(false),
+                Some(i) if !self.walk(i, &names, leads, most, entries)? => return Ok(false),
                 _ => {}
             }
         }
@@ -166,6 +177,33 @@ impl Planted {
     }
 }
 
+/// Why no path leads to a line, after those of its directory that come before; `leads`: one leads to the directory.
+fn no_path(before: &[&Line], line: &Line, leads: bool) -> Option<&'static str> {
+    let is_same = |earlier: &&Line| earlier.name.eq_ignore_ascii_case(&line.name);
+    match (before.iter().any(is_same), line.name.contains(&JOINT)) {
+        (true, _) => Some("an earlier entry has this name"),
+        (_, true) => Some("'>' in the name"),
+        _ => (!leads).then_some("none leads to its directory"),
+    }
+}
+
+/// What a line holds that names no node.
+fn held(names: Names) -> (&'static str, Option<u32>) {
+    let block = match names {
+        Names::Words(0) => return ("nil", None),
+        Names::Words(words) => match reference::lda_to_lbn(FLOPPY, words) {
+            answer if answer.outcome == reference::DONE => answer.a,
+            _ => 0,
+        },
+        Names::Block(k) => S + k,
+        Names::Node(_) | Names::Smudged(_) => 0,
+    };
+    match (S..=E).contains(&block) {
+        true => ("no file", Some(block)),
+        false => ("no block of the partition", None),
+    }
+}
+
 /// The hash of a name, by the formula of the request.
 fn hash(rule: &[u8], name: &[u8]) -> u32 {
     let letters = name.iter().map(|&letter| u32::from(letter.to_ascii_uppercase()));
@@ -173,12 +211,19 @@ fn hash(rule: &[u8], name: &[u8]) -> u32 {
     rule.iter().zip(numbers).map(|(&weight, number)| u32::from(weight) * number).sum::<u32>() % 31
 }
 
-/// A name or a path as the tool prints it.
-pub fn escaped(bytes: &[u8]) -> String {
+/// A path as the tool prints it.
+pub fn escaped(path: &[u8]) -> String {
+    path.split(|byte| *byte == JOINT).map(escaped_name).collect::<Vec<String>>().join(">")
+}
+
+/// A name as the tool prints it.
+pub fn escaped_name(name: &[u8]) -> String {
     let shown = |byte: &u8| match byte {
         b'\\' => "\\\\".to_string(),
-        b' '..=b'~' => char::from(*byte).to_string(),
-        _ => format!("\\x{byte:02x}"),
+        b'>' | ..b' ' | 127.. => format!("\\x{byte:02x}"),
+        _ => char::from(*byte).to_string(),
     };
-    bytes.iter().map(shown).collect()
+    let text: String = name.iter().map(shown).collect();
+    let text = text.strip_prefix(' ').map_or(text.clone(), |rest| format!("\\x20{rest}"));
+    text.strip_suffix(' ').map_or(text.clone(), |rest| format!("{rest}\\x20"))
 }
