@@ -5,10 +5,7 @@ use crate::fields::{self, escaped_name, escaped_path as escaped, DIRECTORY, ROOT
 use crate::held::Held;
 use crate::outcome::Outcome;
 use crate::problem::Problem;
-use perq::{Drive, Refusal, Rule, Target, Tree, Words};
-
-/// What joins the names of a path.
-pub const JOINT: u8 = b'>';
+use perq::{Drive, Refusal, Rule, Target, Tree, Words, JOINT};
 
 /// How many entries of a tree are looked at unless another number is asked for, and the most that can be asked for.
 pub const ROWS: u32 = 65_536;

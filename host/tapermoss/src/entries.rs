@@ -5,14 +5,16 @@ use perq::{Refusal, Rule, DATA};
 
 /// The bytes of an entry: a word of flags, the address in bytes 2 to 5, the name's length in byte 6, and the name.
 const ENTRY: usize = 32;
+const PLACES: usize = DATA / ENTRY;
 const LONGEST: usize = 25;
 /// Block r is selected by a name if r mod 31 is the name's hash.
 const HASHES: u32 = 31;
 
 /// A valid entry.
 pub struct Entry {
-    /// The block of the directory that it stands in, from 0.
-    block: u32,
+    /// The block of the directory that it stands in, from 0, and its place there, from 0 to 15.
+    pub block: u32,
+    pub place: usize,
     /// The two words that should be the LDA of a file.
     pub lda: u32,
     pub name: Vec<u8>,
@@ -24,7 +26,8 @@ impl Entry {
         let length = usize::from(bytes[6]);
         let is_valid = bytes[0] % 2 == 1 && (1..=LONGEST).contains(&length);
         is_valid.then(|| Entry {
-            block: (number / (DATA / ENTRY)) as u32,
+            block: (number / PLACES) as u32,
+            place: number % PLACES,
             lda: u32::from_le_bytes([bytes[2], bytes[3], bytes[4], bytes[5]]),
             name: bytes[7..][..length].to_vec(),
         })

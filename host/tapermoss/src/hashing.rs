@@ -19,7 +19,7 @@ standard input. What has only digits, commas, blanks, signs, dots and brackets i
 /// How many numbers a rule has.
 pub const NUMBERS: usize = 26;
 /// More bytes than a file with a rule and remarks has: 16 MiB. What `rule` prints has a line for each file it was given.
-const LONGEST: usize = 16 << 20;
+const MOST_BYTES: usize = 16 << 20;
 
 /// The rule on the command line.
 #[derive(Args)]
@@ -58,9 +58,9 @@ pub fn given(text: Option<&Path>) -> Result<Rule, Problem> {
             Problem { sentence: problem.sentence + hint, ..problem }
         });
     }
-    let bytes = some(path, LONGEST)?;
-    if bytes.len() > LONGEST {
-        let told = format!("{} has more than {LONGEST} bytes: it is no rule", shown(path));
+    let bytes = some(path, MOST_BYTES)?;
+    if bytes.len() > MOST_BYTES {
+        let told = format!("{} has more than {MOST_BYTES} bytes: it is no rule", shown(path));
         return Err(Problem::usage(told));
     }
     let lines: Vec<&[u8]> = bytes.split(|&byte| byte == b'\n').map(without_remark).collect();

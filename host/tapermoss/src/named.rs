@@ -1,12 +1,12 @@
 //! The file that a command is about: named by its block, or by its path from the root directory.
 
-use crate::directories::{Directories, JOINT};
+use crate::directories::Directories;
 use crate::fields::unescaped;
 use crate::hashing;
 use crate::names::shown;
 use crate::problem::Problem;
 use clap::{ArgGroup, Args};
-use perq::{Drive, Rule};
+use perq::{Drive, Rule, JOINT};
 use std::ffi::OsString;
 use std::os::unix::ffi::OsStrExt;
 use std::path::{Path, PathBuf};

@@ -1,8 +1,8 @@
 //! A tree as it is told: every entry with the path that leads back to it, or why none does, and what a dangling one holds.
 
-use crate::directories::{Directories, JOINT};
+use crate::directories::Directories;
 use crate::held::Held;
-use perq::{Refusal, Row, Rule, Tree, What};
+use perq::{Refusal, Row, Rule, Tree, What, JOINT};
 use std::collections::{HashMap, HashSet};
 
 /// Why no path leads to an entry.

@@ -191,7 +191,7 @@ fn every_command_answers_its_success_with_an_object() {
     assert_eq!(commands, BTreeSet::from(COMMANDS));
 }
 
-/// What the library refuses or a person must decide, with the number, and the block that is meant under 4.
+/// What the library refuses or a person must decide, with the number, and the block that is meant under 4 and 11.
 const REFUSALS: [(&str, &str, u64); 34] = [
     ("partitions @ragged", "refused", 1),
     ("partitions @empty", "refused", 1),

@@ -4,6 +4,7 @@ use super::Arguments;
 use crate::asked::Asked;
 use crate::directories::Directories;
 use crate::drive::the_drive;
+use crate::entries;
 use crate::fields::{DIRECTORY, SORT};
 use crate::image::read;
 use crate::layout::{Layout, Place};
@@ -14,35 +15,21 @@ use crate::problem::Problem;
 use crate::rows;
 use crate::told::{joined, reported};
 use crate::volume;
-use perq::{Drive, Refusal, Rule, DATA};
+use perq::{Drive, Refusal, Rule};
 use serde_json::{json, Value};
 use std::path::Path;
 
-/// How many entries a block of a directory has.
-const PLACES: usize = 16;
-
-/// A valid entry, and where it stands.
+/// A valid entry, and the directory that it stands in.
 pub struct Entry {
     pub partition: u32,
     pub directory: u32,
-    pub block: u32,
-    /// From 0 to 15.
-    pub place: usize,
-    pub name: Vec<u8>,
+    pub own: entries::Entry,
 }
 
 impl Entry {
-    /// That in these 32 bytes, if it is valid: bit 0 of the first one, and the length of the name before the name.
-    fn at(partition: u32, directory: u32, number: usize, bytes: &[u8]) -> Option<Entry> {
-        let length = usize::from(bytes[6]);
-        let name = bytes[7..].get(..length).filter(|name| bytes[0] & 1 == 1 && !name.is_empty())?;
-        let (block, place) = ((number / PLACES) as u32, number % PLACES);
-        Some(Entry { partition, directory, block, place, name: name.to_vec() })
-    }
-
     /// What it says of the weights.
     pub fn equation(&self) -> Equation {
-        Equation::of(&self.name, self.block)
+        Equation::of(&self.own.name, self.own.block)
     }
 }
 
@@ -77,14 +64,15 @@ impl Part {
         let volume::Survey { files, malformed, .. } =
             volume::survey(image, drive, s).map_err(refused)?;
         self.malformed = malformed;
-        let root = Directories { image, drive, s, rule: Rule::Unknown }.find(b"");
+        let directories = Directories { image, drive, s, rule: Rule::Unknown };
+        let root = directories.find(b"");
         for f in files {
             let description = perq::description(image, drive, s, f).map_err(refused)?;
             let sort = u16::from_le_bytes([description[2 * SORT], description[2 * SORT + 1]]);
             if sort == DIRECTORY || root.as_ref().is_ok_and(|&root| root == f) {
-                let bytes = perq::whole_file(image, drive, s, f).map_err(refused)?;
-                let entry = |(number, bytes)| Entry::at(s, f, number, bytes);
-                self.entries.extend(bytes.chunks(DATA / PLACES).enumerate().filter_map(entry));
+                let entries = directories.entries(f).map_err(refused)?;
+                let entry = |own| Entry { partition: s, directory: f, own };
+                self.entries.extend(entries.into_iter().map(entry));
                 self.directories += 1;
             }
         }

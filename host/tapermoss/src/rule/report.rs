@@ -28,7 +28,7 @@ impl<'a> Found<'a> {
     /// Those that do not agree.
     pub fn wrong(&self, learnt: &Learnt) -> Vec<Wrong<'a>> {
         let wrong = |&(path, entry): &(&'a Path, &'a Entry)| {
-            let (hash, stands) = (entry.equation().hash(&learnt.weights), entry.block % 31);
+            let (hash, stands) = (entry.equation().hash(&learnt.weights), entry.own.block % 31);
             (u32::from(hash) != stands).then_some((path, entry, stands, hash))
         };
         self.entries.iter().filter_map(wrong).collect()

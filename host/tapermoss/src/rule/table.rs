@@ -1,7 +1,8 @@
 //! The entries that stand where the rule does not put them: a table for a person, and all of them as JSON.
 
 use super::images::Entry;
-use crate::fields::escaped;
+use crate::entries;
+use crate::fields::escaped_name;
 use crate::names::{hex, name_bytes, shown};
 use serde_json::{json, Value};
 use std::path::Path;
@@ -23,8 +24,9 @@ pub fn table(wrong: &[Wrong]) -> Vec<String> {
             .to_string(),
     ];
     for (path, entry, stands, hash) in wrong.iter().take(MOST) {
-        let Entry { partition, directory, block, place, name } = entry;
-        let (name, image) = (escaped(name), shown(path));
+        let Entry { partition, directory, own } = entry;
+        let entries::Entry { block, place, name, .. } = own;
+        let (name, image) = (escaped_name(name), shown(path));
         lines.push(format!(
             "{partition:>9}  {directory:>9}  {block:>5}  {place:>5}  {stands:>6}  {hash:>4}  {name:<25}  {image}"
         ));
@@ -38,8 +40,8 @@ pub fn table(wrong: &[Wrong]) -> Vec<String> {
 pub fn as_json((path, entry, stands, hash): &Wrong) -> Value {
     json!({
         "image": shown(path), "image_bytes": name_bytes(path), "partition": entry.partition,
-        "directory": entry.directory, "block": entry.block, "place": entry.place,
-        "name": escaped(&entry.name), "name_bytes": hex(&entry.name),
+        "directory": entry.directory, "block": entry.own.block, "place": entry.own.place,
+        "name": escaped_name(&entry.own.name), "name_bytes": hex(&entry.own.name),
         "stands": stands, "hash": hash,
     })
 }
