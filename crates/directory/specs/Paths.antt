@@ -12,9 +12,8 @@ use Rattle.base.specs.Laws.{both-left}
 use Rattle.image.specs.View.{pair}
 use Rattle.image.specs.Image.{view}
 use Rattle.volume.specs.Files.{Partition, name, len, isFile}
-use Rattle.volume.specs.Answers.{lowest}
 use Rattle.volume.specs.Reads.{candidate-in}
-use Rattle.volume.specs.Steps.{Searching, search-starts-as, search-hit, search-next}
+use Rattle.volume.specs.Steps.{lowest-at, more, none, Searching, search-starts-as, search-hit, search-next}
 use Rattle.volume.specs.declared.Found.{Found}
 use Rattle.volume.specs.declared.Found.the-variants.{At, Nothing}
 use Rattle.directory.specs.Directory.{Selection, sameName, nameAt, takenAt, isDirectory, fileAt, targetOf, hit, find, partEnd, asLooked, follow, onward, enteredAt, entered, look, lookFrom}
@@ -58,18 +57,9 @@ unfolding find
 find-starts π l sel part f k h = rw (find, ← h) (search-starts-as (hit π l sel part f) 0 (16 * k) (16 * k) (omega arith))
 
 -- an entry that is found lies in the directory
-find-below : (p : ℕ → Bool) (a n j : ℕ) → lowest p a n ≡ At j → j < a + n
-unfolding lowest
-find-below p a zero j h = let z : _≡_ {A = ℕ} 0 1 = cc in absurd (omega arith)
-find-below p a (suc n) j h = go (p a) refl (find-below p (a + 1) n j)
-  where
-    go : (t : Bool) → p a ≡ t → (lowest p (a + 1) n ≡ At j → j < a + 1 + n) → j < a + suc n
-    go true q r = let z = rw (q, lowest) at h in let y : a ≡ j = cc in omega arith
-    go false q r = let z = r (rw (q, lowest) at h) in omega arith
-
 pub found-below : (π : Partition) (l : List ℕ) (sel : Selection) (part : List ℕ) (f k j : ℕ) → k ≡ len π (view l) f → find π l sel part f ≡ At j → j < 16 * k
 unfolding find
-found-below π l sel part f k j q h = let z = find-below (hit π l sel part f) 0 (16 * len π (view l) f) j h in omega arith
+found-below π l sel part f k j q h = let z = lowest-at (hit π l sel part f) 0 (16 * len π (view l) f) j h in omega arith
 
 -- ---- what a name is in a directory
 
@@ -103,12 +93,6 @@ entered-file π l sel part f t h = go (find π l sel part f) refl
     go Nothing q = let z = rw (entered, q) at h in cc
 
 -- ---- a path
-
-more : {b e : ℕ} → b < e → e - b ≡ suc (e - (b + 1))
-more l = omega arith
-
-none : {b e : ℕ} → e ≤ b → e - b ≡ zero
-none l = omega arith
 
 -- the end of a part is searched at q
 pub record Ending (path : List ℕ) (q w : ℕ) : Type 0 where

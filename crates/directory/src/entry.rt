@@ -3,13 +3,11 @@ ghost use mathlib.Core.Path.{_≡_};
 ghost use mathlib.Core.Bool.{true};
 ghost use Prim.Native.Nat.{_+_, _*_, _≤_, _<_};
 ghost use lib.ListN.{length};
-ghost use Rattle.image.specs.Image.{view};
-ghost use Rattle.volume.specs.Files.{partitionOf, isFile};
+ghost use Rattle.volume.specs.Files.{partitionOf};
 ghost use Rattle.volume.specs.Reads.{Lies};
 ghost use Rattle.inspect.specs.Parts.{Opened};
 ghost use Rattle.directory.specs.Directory.{upper, sameName, hash, isRule, selected, takenAt, isDirectory, fileAt, rootOf, metAt};
 use crate::Met;
-use inspect::form;
 use inspect::index;
 use volume::Found;
 
@@ -119,18 +117,6 @@ pub fn taken(img: &[u8], rule: &[u8], r: usize, at: usize) -> bool
     selected(rule, &img[from..end], r)
 }
 
-// Whether f is a file.
-fn is_file(img: &[u8], drive: usize, s: usize, e: usize, f: usize) -> bool
-    requires { ⌜ Lies drive (now img) s e ⌝ }
-    ensures { λ r. ⌜ r ≡ isFile (partitionOf drive s e) (view (now (img .entry))) f ⌝ }
-{
-    if inspect::candidate(img, drive, s, e, f) {
-        form::well_formed(img, drive, s, e, f)
-    } else {
-        false
-    }
-}
-
 // The file that x is the LDA of, or none.
 pub fn file_at(img: &[u8], drive: usize, s: usize, e: usize, x: usize) -> Found
     requires { ⌜ (Lies drive (now img) s e) × (x < 4294967296) ⌝ }
@@ -140,7 +126,7 @@ pub fn file_at(img: &[u8], drive: usize, s: usize, e: usize, x: usize) -> Found
     if drive::lda(drive, t) != x {
         return Found::Nothing;
     }
-    if is_file(img, drive, s, e, t) {
+    if inspect::is_file(img, drive, s, e, t) {
         Found::At(t)
     } else {
         Found::Nothing

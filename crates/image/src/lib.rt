@@ -2,14 +2,15 @@
 ghost use mathlib.Core.Path.{_≡_};
 ghost use mathlib.Core.Bool.{true, false};
 ghost use mathlib.Core.List.{_++_, []};
-ghost use Prim.Native.Nat.{ℕ, _+_, _*_, _-_, _<_, _≤_};
-ghost use lib.ListN.{length, take, drop};
+ghost use Prim.Native.Nat.{_+_, _*_, _-_, _<_, _≤_};
+ghost use lib.ListN.{length, drop};
 ghost use Rattle.image.specs.View.{pair, put, put2, blank};
 ghost use Rattle.image.specs.Signed.{signed};
 ghost use Rattle.image.specs.Image.{view, recOf};
 ghost use Rattle.image.specs.Stores.{bytesOf, over};
 ghost use Rattle.image.specs.Saves.{when, saves, words, withData, withText, Applied, Made, seven, Within};
 
+// A byte as a number.
 pub fn wide(x: u8) -> usize
     ensures { λ r. ⌜ (r ≡ x) × (r < 256) ⌝ }
 {

@@ -3,7 +3,7 @@ ghost use mathlib.Core.Path.{_≡_};
 ghost use Prim.Native.Nat.{_+_, _*_, _≤_, _<_};
 ghost use lib.ListN.{length};
 ghost use Rattle.image.specs.Image.{view};
-ghost use Rattle.volume.specs.Files.{partitionOf, candidate, isMalformed};
+ghost use Rattle.volume.specs.Files.{partitionOf, candidate, isFile, isMalformed};
 ghost use Rattle.volume.specs.Answers.{imageGood, partGood, partition, lowestMalformed};
 ghost use Rattle.volume.specs.Reads.{Lies};
 use base::Refusal;
@@ -105,6 +105,18 @@ pub fn candidate(img: &[u8], drive: usize, s: usize, e: usize, f: usize) -> bool
         return false;
     }
     image::pair(img, f, SERIAL) == drive::pda(drive, f)
+}
+
+// Whether f is a file.
+pub fn is_file(img: &[u8], drive: usize, s: usize, e: usize, f: usize) -> bool
+    requires { ⌜ Lies drive (now img) s e ⌝ }
+    ensures { λ r. ⌜ r ≡ isFile (partitionOf drive s e) (view (now (img .entry))) f ⌝ }
+{
+    if candidate(img, drive, s, e, f) {
+        form::well_formed(img, drive, s, e, f)
+    } else {
+        false
+    }
 }
 
 // Whether f is a malformed candidate.

@@ -3,24 +3,12 @@ ghost use mathlib.Core.Path.{_≡_};
 ghost use lib.Dec.{ltb};
 ghost use Rattle.base.specs.Tests.{pick};
 ghost use Rattle.image.specs.Image.{view};
-ghost use Rattle.volume.specs.Files.{partitionOf, isFile};
+ghost use Rattle.volume.specs.Files.{partitionOf};
 ghost use Rattle.volume.specs.Answers.{fileAbove, nextFile};
 ghost use Rattle.volume.specs.Reads.{Lies};
 use volume::Found;
 use volume::Outcome;
 use volume::Part;
-
-// Whether f is a file.
-fn is_file(img: &[u8], drive: usize, s: usize, e: usize, f: usize) -> bool
-    requires { ⌜ Lies drive (now img) s e ⌝ }
-    ensures { λ r. ⌜ r ≡ isFile (partitionOf drive s e) (view (now (img .entry))) f ⌝ }
-{
-    if inspect::candidate(img, drive, s, e, f) {
-        inspect::well_formed(img, drive, s, e, f)
-    } else {
-        false
-    }
-}
 
 // The larger of two numbers.
 fn most(a: usize, b: usize) -> usize
@@ -40,7 +28,7 @@ fn file_above(img: &[u8], drive: usize, s: usize, e: usize, b: usize) -> Found
     }
     let end = e + 1;
     for f in a + 1..end {
-        if is_file(img, drive, s, e, f) {
+        if inspect::is_file(img, drive, s, e, f) {
             return Found::At(f);
         }
     }

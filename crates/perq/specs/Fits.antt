@@ -1,5 +1,5 @@
 -- Every number that a call answers fits 32 bits: blocks, offsets and counts of a good partition are small.
-use mathlib.Core.Path.{_≡_, refl, sym, ap, ap₂, _∙_, subst}
+use mathlib.Core.Path.{_≡_, refl, sym, ap₂, _∙_, subst}
 use mathlib.Core.Bool.{Bool, true, false, not}
 use mathlib.Core.List.{List, [], _∷_}
 use Prim.Native.Nat.{ℕ, zero, suc, _+_, _-_, _*_, _/_, _<_, _≤_}
@@ -7,28 +7,25 @@ use native.Mathlib.Omega.{arith}
 use lib.Dec.{leb, ltb, eqb}
 use lib.ListN.{length, take}
 use borrow.Author.Tests.{ltb-true, leb-true, leb-false}
-use Rattle.base.specs.Tests.{pick, both, all, count}
-use Rattle.base.specs.Laws.{both-left, both-right}
+use Rattle.base.specs.Tests.{pick, count}
 use Rattle.base.specs.Refusals.{culprit}
-use Rattle.base.specs.declared.Refusal.{Refusal}
-use Rattle.base.specs.declared.Refusal.the-variants.{BadImage, BadPartition, BadBuffer, Malformed, Unsound, NoCandidate, BadBlock, Full, NothingFree}
+use Rattle.base.specs.declared.Refusal.the-variants.{BadImage, BadPartition, Malformed, NoCandidate}
 use Rattle.image.specs.View.{View}
 use Rattle.image.specs.Image.{view}
 use Rattle.image.specs.Saves.{words}
-use Rattle.volume.specs.Files.{Partition, partitionOf, inside, candidate, wellFormed, isFile, isMalformed, owned, sound, blockAt, len, ptrs, name, names, reach, freeHead, free, unowned}
+use Rattle.volume.specs.Files.{Partition, partitionOf, inside, candidate, wellFormed, isFile, isMalformed, owned, sound, blockAt, len, ptrs, name, reach, freeHead, free, unowned}
 use Rattle.volume.specs.Owned.{wf-of, nth-data, data-in, member}
-use Rattle.volume.specs.Reads.{Lies, lies, inside-of, candidate-in}
+use Rattle.volume.specs.Reads.{lies, inside-of, candidate-in}
+use Rattle.volume.specs.Steps.{lowest-at}
 use Rattle.volume.specs.Answers.{imageGood, partGood, endOf, partition, inPartition, lowest, lowestMalformed, fileAbove, foundFile, nextFile, tallied, checkClean, checkIn, checked, ofFile, showIn, shown, eitherOf, shownPair, readFrom, plain, describedAs, extractIn, extracted}
-use Rattle.volume.specs.Calls.{Planned, refuse, finish, unmarred, through, createIn, appendIn, writeIn, describeIn, destroyIn, repairIn, planned, Answered, Call, create, write, describe, destroy, repair}
+use Rattle.volume.specs.Calls.{Planned, unmarred, through, createIn, appendIn, writeIn, describeIn, destroyIn, repairIn, planned, Answered, Call, create, write, describe, destroy, repair}
 use Rattle.volume.specs.Calls as calls
-use Rattle.volume.specs.Plans.{createPlan, grows}
+use Rattle.volume.specs.Plans.{grows}
 use Rattle.volume.specs.declared.Found.{Found}
 use Rattle.volume.specs.declared.Found.the-variants.{At, Nothing}
-use Rattle.volume.specs.declared.Part.{Part}
 use Rattle.volume.specs.declared.Part.the-variants as part
 use Rattle.volume.specs.declared.Outcome.{Outcome}
 use Rattle.volume.specs.declared.Outcome.the-variants.{Done, Absent, Refused}
-use Rattle.volume.specs.declared.PairAnswer.{PairAnswer}
 use Rattle.volume.specs.declared.Answer.{Answer}
 use Rattle.perq.specs.Flat.{flat, Changed}
 use Rattle.perq.specs.declared.PerqAnswer.{PerqAnswer}
@@ -44,16 +41,7 @@ pub pick-fits : (t : Bool) (x y : Outcome) → (t ≡ true → OutcomeFits x) �
 pick-fits true x y h k = h refl
 pick-fits false x y h k = k
 
--- a search finds a block in its range; a count is at most its bound
-lowest-at : (p : ℕ → Bool) (a n f : ℕ) → lowest p a n ≡ At f → f < a + n
-unfolding lowest
-lowest-at p a zero f q = let z : _≡_ {A = ℕ} 0 1 = cc in absurd (omega arith)
-lowest-at p a (suc n) f q = go (p a) q (lowest-at p (a + 1) n f)
-  where
-    go : (t : Bool) → elim t [ true ↦ At a | false ↦ lowest p (a + 1) n ] ≡ At f → (lowest p (a + 1) n ≡ At f → f < a + 1 + n) → f < a + suc n
-    go true q ih = let z : a ≡ f = cc in omega arith
-    go false q ih = let z = ih q in omega arith
-
+-- a search finds nothing in no range; a count is at most its bound
 lowest-none : (p : ℕ → Bool) (a n f : ℕ) → n ≡ 0 → lowest p a n ≡ At f → ⊥
 unfolding lowest
 lowest-none p a zero f z q = let y : _≡_ {A = ℕ} 0 1 = cc in omega arith

@@ -10,6 +10,7 @@ use borrow.Author.Tests.{eq-eqb, ne-eqb}
 use Rattle.base.specs.Tests.{pick}
 use Rattle.base.specs.declared.Refusal.the-variants.{TooDeep}
 use Rattle.image.specs.Image.{view}
+use Rattle.volume.specs.Steps.{more, none}
 use Rattle.volume.specs.Files.{Partition, len}
 use Rattle.volume.specs.declared.Outcome.the-variants.{Done, Refused}
 use Rattle.directory.specs.Directory.{Selection, nameAt, placeOf, metAt, Item, row, tenth, rowOf, itemsOf, entries, tree, walked, fitting, lay, walkedAs}
@@ -55,12 +56,6 @@ module _ (on : Bool) (m n : ℕ) where
       go false = refl
 
 -- ---- the ways through the walk
-
-more : {b e : ℕ} → b < e → e - b ≡ suc (e - (b + 1))
-more l = omega arith
-
-none : {b e : ℕ} → e ≤ b → e - b ≡ zero
-none l = omega arith
 
 -- items `is` are left with n rows filled, and the buffer b: what is left has the whole's answer w and the whole's bytes
 pub record Leaves (m : ℕ) (on : Bool) (size : ℕ) (final : List ℕ) (w : Walk) (is : List Item) (n : ℕ) (b : List ℕ) : Type 0 where

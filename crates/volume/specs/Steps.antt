@@ -82,11 +82,22 @@ module _ {P : ℕ → Bool} {k i : ℕ} {w : Bool} (s : Passed P k i w) where
 
 pub ruleset passes = (pass-starts, pass-next, pass-fails, pass-end, not-true, not-false, needs)
 
-more : {b e : ℕ} → b < e → e - b ≡ suc (e - (b + 1))
+-- what is left up to e at b: one and the rest, or none
+pub more : {b e : ℕ} → b < e → e - b ≡ suc (e - (b + 1))
 more l = omega arith
 
-none : {b e : ℕ} → e ≤ b → e - b ≡ zero
+pub none : {b e : ℕ} → e ≤ b → e - b ≡ zero
 none l = omega arith
+
+-- a search finds a number in its range
+pub lowest-at : (p : ℕ → Bool) (a n f : ℕ) → lowest p a n ≡ At f → f < a + n
+unfolding lowest
+lowest-at p a zero f q = let z : _≡_ {A = ℕ} 0 1 = cc in absurd (omega arith)
+lowest-at p a (suc n) f q = go (p a) q (lowest-at p (a + 1) n f)
+  where
+    go : (t : Bool) → elim t [ true ↦ At a | false ↦ lowest p (a + 1) n ] ≡ At f → (lowest p (a + 1) n ≡ At f → f < a + 1 + n) → f < a + suc n
+    go true q ih = let z : a ≡ f = cc in omega arith
+    go false q ih = let z = ih q in omega arith
 
 -- a search up to e that is at b: what is left to search has the whole's answer
 pub record Searching (p : ℕ → Bool) (e b : ℕ) (w : Found) : Type 0 where

@@ -1,10 +1,10 @@
 use mathlib.Core.Path.{sym, _∙_}
 use Rattle.base.specs.Tests.{both}
-use Rattle.volume.specs.Files.{candidate, isFile}
+use Rattle.volume.specs.Files.{isFile}
 use Rattle.volume.specs.Reads.{candidate-in}
 use borrow.Author.Needs.{needs}
-use Rattle.listing.proofs.is_file.Statement.{statement}
-use Rattle.listing.proofs.is_file.Tie as tie
+use Rattle.inspect.proofs.is_file.Statement.{statement}
+use Rattle.inspect.proofs.is_file.Tie as tie
 
 well-formed-requires : tie.Need-well-formed-requires
 well-formed-requires c κs = (c .before .before .before .pre, candidate-in _ _ _ (sym (c .before .candidate .ensures) ∙ c .if1 .taken) .1)
