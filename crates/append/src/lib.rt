@@ -1,43 +1,33 @@
-// The records of append. The file f has p pointer blocks and k blocks, the last in link order `old` and the first `top`; a is the new
-// data block, and q the new pointer block where one is new.
+// The records and the stores of a write of the block behind the last. The file f has n blocks; a is the new data block, and q the new
+// pointer block where one is new.
 ghost use mathlib.Core.Path.{_≡_};
-ghost use mathlib.Core.Bool.{true, false};
+ghost use mathlib.Core.Bool.{true};
 ghost use mathlib.Core.List.{_∷_, []};
-ghost use Prim.Native.Nat.{_-_, _<_, _≤_};
-ghost use lib.Dec.{ltb};
+ghost use Prim.Native.Nat.{_≤_, _<_};
 ghost use lib.ListN.{length};
-ghost use Rattle.base.specs.Tests.{pick};
 ghost use Rattle.image.specs.Image.{view, recOf};
 ghost use Rattle.image.specs.Saves.{words, Made};
-ghost use Rattle.volume.specs.Plans.{st, stores, put2If, datum, pointerStores, lastStores, topStores, grownFib, appended};
-ghost use Rattle.records.specs.Records.{Block, StandsFor, Appends};
+ghost use Rattle.volume.specs.Files.{partitionOf};
+ghost use Rattle.volume.specs.Plans.{stores};
+ghost use Rattle.volume.specs.Writes.{put2If, present′, writePlan};
+ghost use Rattle.records.specs.Records.{StandsFor};
+ghost use Rattle.append.specs.Numbers.{grows};
+ghost use Rattle.append.specs.Bodies.{pointerBase};
+ghost use Rattle.append.specs.Growing.{Growing, Appends, dataStore, pointerStores, oldStores, fibStore};
 use image::Save;
-use records::first_save;
+use inspect::HOME;
+use place::FIRST;
 use records::lda_of;
-use records::pda_of;
-use records::pib_less_save;
 use records::words::DIRECT;
-use records::words::FIB;
-use records::words::FILLER;
 use records::words::IN_USE;
 use records::words::INDIRECT;
 use records::words::LAST_ADDRESS;
 use records::words::LAST_BLOCK;
 use records::words::LOW_ADDRESS;
 use records::words::LOW_NUMBER;
-use records::words::NEXT;
-use records::words::PREVIOUS;
-use records::words::RELATIVE;
-use records::words::SERIAL;
 use records::words::SLOT;
 
-// Of two blocks, a where `on`, else b.
-fn either(on: bool, a: usize, b: usize) -> usize
-    requires { ⌜ (a < 69552) × (b < 69552) ⌝ }
-    ensures { λ r. ⌜ (r ≡ pick on a b) × (r < 69552) ⌝ }
-{
-    if on { a } else { b }
-}
+pub mod place; // place.rt: blocks and links by key
 
 // A record with v as its words w and w + 1, where `on`.
 fn pair_if(r: [u8; 528], on: bool, w: usize, v: usize) -> [u8; 528]
@@ -51,152 +41,144 @@ fn pair_if(r: [u8; 528], on: bool, w: usize, v: usize) -> [u8; 528]
 fn data_save(
     img: &[u8],
     drive: usize,
+    s: usize,
+    e: usize,
     f: usize,
+    n: usize,
     a: usize,
-    k: usize,
-    old: usize,
+    q: usize,
     block: &[u8],
 ) -> Save
-    requires { ⌜ (Block (now img) f) × (Block (now img) a) × (Block (now img) old) × (k < 4160) × (length (now block) ≡ 512) ⌝ }
-    ensures { λ r. ⌜ StandsFor (now (img .entry)) (st a (datum drive (view (now (img .entry))) f a k old (words (now (block .entry)))) ∷ []) r ⌝ }
+    requires { ⌜ (Growing drive (now img) s e f n a q) × (length (now block) ≡ 512) ⌝ }
+    ensures { λ r. ⌜ StandsFor (now (img .entry)) (dataStore (partitionOf drive s e) (view (now (img .entry))) f n a (words (now (block .entry))) ∷ []) r ⌝ }
 {
-    let x = image::with_pair(image::blank(), PREVIOUS, pda_of(drive, old));
-    let x = image::with_word(x, FILLER, image::word(img, a, FILLER));
-    let x = image::with_word(x, RELATIVE, k);
-    let x = image::with_pair(x, SERIAL, pda_of(drive, f));
-    image::saved(a, image::with_data(x, block))
+    let x = image::with_data(place::stamp(img, drive, f, a, FIRST + n), block);
+    place::key_save(img, drive, s, e, f, n, a, q, FIRST + n, x)
 }
 
-// The pointer block, if k ≥ 64: a new one, or the last with one entry more.
+// What the pointer block over block n is made from: a new one, or the one that is there.
+fn pointer_base(
+    img: &[u8],
+    drive: usize,
+    s: usize,
+    e: usize,
+    f: usize,
+    n: usize,
+    a: usize,
+    q: usize,
+) -> [u8; 528]
+    requires { ⌜ (Growing drive (now img) s e f n a q) × (64 ≤ n) ⌝ }
+    ensures { λ r. ⌜ recOf r ≡ pointerBase (partitionOf drive s e) (view (now (img .entry))) f n q (grows n) ⌝ }
+{
+    let k = inspect::low(n + 1);
+    if place::grows(n) {
+        return place::stamp(img, drive, f, q, k);
+    }
+    image::record(img, inspect::spot(img, drive, s, e, f, k))
+}
+
+// The pointer block over block n, from block 64 on, with one entry more.
 fn pointer_save(
     img: &[u8],
     drive: usize,
+    s: usize,
+    e: usize,
     f: usize,
+    n: usize,
     a: usize,
     q: usize,
-    p: usize,
-    k: usize,
-    top: usize,
-    grows: bool,
 ) -> Save
-    requires { ⌜ (Block (now img) f) × (Block (now img) a) × (Block (now img) q) × (Block (now img) top) × (p ≤ 32) ⌝ }
-    ensures { λ r. ⌜ StandsFor (now (img .entry)) (pointerStores drive (view (now (img .entry))) f a q p k top grows) r ⌝ }
+    requires { ⌜ Growing drive (now img) s e f n a q ⌝ }
+    ensures { λ r. ⌜ StandsFor (now (img .entry)) (pointerStores (partitionOf drive s e) (view (now (img .entry))) f n a q) r ⌝ }
 {
-    if k < 64 {
+    if n < 64 {
         return image::none();
     }
-    if grows {
-        let x = image::with_pair(image::blank(), SLOT, lda_of(drive, a));
-        let x = image::with_pair(x, NEXT, pda_of(drive, top));
-        let x = image::with_word(x, FILLER, image::word(img, q, FILLER));
-        let x = image::with_word(x, RELATIVE, 65532 - p);
-        return image::saved(q, image::with_pair(x, SERIAL, pda_of(drive, f)));
-    }
-    let slot = SLOT + 2 * ((k - 64) % 128);
-    image::saved(
-        top,
-        image::with_pair(image::record(img, top), slot, lda_of(drive, a)),
-    )
+    let x = pointer_base(img, drive, s, e, f, n, a, q);
+    let slot = SLOT + 2 * ((n + 64) % 128);
+    let x = image::with_pair(x, slot, lda_of(drive, a));
+    place::key_save(img, drive, s, e, f, n, a, q, inspect::low(n + 1), x)
 }
 
-// The old last block, if k ≥ 1.
-fn last_save(img: &[u8], drive: usize, a: usize, k: usize, old: usize) -> Save
-    requires { ⌜ (Block (now img) a) × (Block (now img) old) ⌝ }
-    ensures { λ r. ⌜ StandsFor (now (img .entry)) (lastStores drive (view (now (img .entry))) a k old) r ⌝ }
+// The block of key k with its record as it is but for the links, where `on`.
+fn old_save(
+    img: &[u8],
+    drive: usize,
+    s: usize,
+    e: usize,
+    f: usize,
+    n: usize,
+    a: usize,
+    q: usize,
+    on: bool,
+    k: usize,
+) -> Save
+    requires { ⌜ (Growing drive (now img) s e f n a q) × ((on ≡ true) → (present′ (partitionOf drive s e) (view (now img)) f n k ≡ true)) ⌝ }
+    ensures { λ r. ⌜ StandsFor (now (img .entry)) (oldStores (partitionOf drive s e) (view (now (img .entry))) f n on k) r ⌝ }
 {
-    if k < 1 {
-        return image::none();
-    }
-    image::saved(
-        old,
-        image::with_pair(image::record(img, old), NEXT, pda_of(drive, a)),
-    )
-}
-
-// The old most negative block, if a pointer block is new and p ≥ 1.
-fn top_save(img: &[u8], drive: usize, q: usize, p: usize, top: usize, grows: bool) -> Save
-    requires { ⌜ (Block (now img) q) × (Block (now img) top) ⌝ }
-    ensures { λ r. ⌜ StandsFor (now (img .entry)) (topStores drive (view (now (img .entry))) q p top grows) r ⌝ }
-{
-    if grows {
-        if p < 1 {
-            return image::none();
-        }
-        return image::saved(
-            top,
-            image::with_pair(image::record(img, top), PREVIOUS, pda_of(drive, q)),
-        );
+    if on {
+        let b = place::block_of(img, drive, s, e, f, n, a, q, k);
+        return place::key_save(img, drive, s, e, f, n, a, q, k, image::record(img, b));
     }
     image::none()
 }
 
-// The relative number of the most negative of p pointer blocks, or the FIB's.
-fn low_number(p: usize) -> usize
-    requires { ⌜ p ≤ 32 ⌝ }
-    ensures { λ r. ⌜ (r ≡ pick (ltb p 1) 65535 (65533 - p)) × (r < 65536) ⌝ }
-{
-    if p < 1 { FIB } else { 65533 - p }
-}
-
-// The FIB with one block more, and p2 pointer blocks.
-fn grown_save(
+// The FIB, with L, the counts, and the entries that it gains.
+fn fib_save(
     img: &[u8],
     drive: usize,
+    s: usize,
+    e: usize,
     f: usize,
+    n: usize,
     a: usize,
     q: usize,
-    p: usize,
-    k: usize,
-    p2: usize,
-    top: usize,
-    grows: bool,
 ) -> Save
-    requires { ⌜ (Block (now img) f) × (Block (now img) a) × (Block (now img) q) × (Block (now img) top) × (k < 4160) × (p2 ≤ 32) × (p ≤ 32) × ((grows ≡ true) → (p < 32)) ⌝ }
-    ensures { λ r. ⌜ StandsFor (now (img .entry)) (st f (grownFib drive (view (now (img .entry))) f a q p k p2 top grows) ∷ []) r ⌝ }
+    requires { ⌜ Growing drive (now img) s e f n a q ⌝ }
+    ensures { λ r. ⌜ StandsFor (now (img .entry)) (fibStore (partitionOf drive s e) (view (now (img .entry))) f n a q ∷ []) r ⌝ }
 {
-    let pa = pda_of(drive, a);
+    let low = inspect::low(n + 1);
+    let top = place::block_of(img, drive, s, e, f, n, a, q, low);
     let la = lda_of(drive, a);
-    let lt = lda_of(drive, either(grows, q, top));
-    let x = pair_if(image::record(img, f), k < 1, NEXT, pa);
-    let x = pair_if(x, grows & (p < 1), PREVIOUS, pda_of(drive, q));
-    let x = pair_if(x, k < 64, DIRECT + 2 * k, la);
-    let x = pair_if(x, grows, INDIRECT + 2 * p, lda_of(drive, q));
-    let x = image::with_pair(x, LOW_ADDRESS, lt);
-    let x = image::with_word(x, LOW_NUMBER, low_number(p2));
+    let lq = lda_of(drive, q);
+    let x = image::record(img, f);
+    let x = pair_if(x, place::grows(n), INDIRECT + 2 * (n / 128), lq);
+    let x = pair_if(x, n < 64, DIRECT + 2 * n, la);
     let x = image::with_pair(x, LAST_ADDRESS, la);
-    let x = image::with_word(x, LAST_BLOCK, k);
-    image::saved(f, image::with_word(x, IN_USE, p2 + k + 2))
+    let x = image::with_word(x, LAST_BLOCK, n);
+    let x = image::with_pair(x, LOW_ADDRESS, lda_of(drive, top));
+    let x = image::with_word(x, LOW_NUMBER, place::number(low));
+    let x = image::with_word(x, IN_USE, inspect::size_of(n + 1));
+    place::key_save(img, drive, s, e, f, n, a, q, HOME, x)
 }
 
-// The stores of append: data, pointer block, old last block, old most negative block, FIB, new first free block g, PIB with n free
-// blocks fewer.
+// The stores of the write: data, pointer block, old last block, old first block where a pointer block is new, FIB, new first free block
+// g, PIB with m free blocks fewer.
 pub fn append_store(
     img: &mut [u8],
     drive: usize,
     s: usize,
+    e: usize,
     f: usize,
+    n: usize,
     a: usize,
     q: usize,
     g: usize,
-    p: usize,
-    k: usize,
-    p2: usize,
-    old: usize,
-    top: usize,
-    n: usize,
+    m: usize,
     block: &[u8],
     limit: usize,
 ) -> usize
-    requires { ⌜ (Appends (now img) s f a q g p k p2 old top) × (length (now block) ≡ 512) ⌝ }
-    ensures { λ m. ⌜ Made limit (stores (appended drive (view (now (img .entry))) s f a q g p k p2 old top (ltb p p2) n (words (now (block .entry))))) (now (img .entry)) (now (img .exit)) m ⌝ }
+    requires { ⌜ (Appends drive (now img) s e f n a q g m) × (length (now block) ≡ 512) ⌝ }
+    ensures { λ x. ⌜ Made limit (stores (writePlan (partitionOf drive s e) (view (now (img .entry))) f n (words (now (block .entry))))) (now (img .entry)) (now (img .exit)) x ⌝ }
 {
-    let grows = p < p2;
-    let data = data_save(img, drive, f, a, k, old, block);
-    let pointer = pointer_save(img, drive, f, a, q, p, k, top, grows);
-    let last = last_save(img, drive, a, k, old);
-    let low = top_save(img, drive, q, p, top, grows);
-    let fib = grown_save(img, drive, f, a, q, p, k, p2, top, grows);
-    let first = first_save(img, g);
-    let pib = pib_less_save(img, drive, s, g, n);
-    image::perform(img, limit, data, pointer, last, low, fib, first, pib)
+    let low = inspect::low(n);
+    let moved = place::grows(n) & (low < HOME);
+    let data = data_save(img, drive, s, e, f, n, a, q, block);
+    let pointer = pointer_save(img, drive, s, e, f, n, a, q);
+    let last = old_save(img, drive, s, e, f, n, a, q, 0 < n, HOME + n);
+    let top = old_save(img, drive, s, e, f, n, a, q, moved, low);
+    let fib = fib_save(img, drive, s, e, f, n, a, q);
+    let first = records::first_save(img, g);
+    let pib = records::pib_less_save(img, drive, s, g, m);
+    image::perform(img, limit, data, pointer, last, top, fib, first, pib)
 }

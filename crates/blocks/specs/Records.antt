@@ -1,22 +1,24 @@
--- The parts of the records that repair stores, over plain numbers: a link that may be nil, and words that are made nil.
+-- The parts of the records that repair stores, over plain numbers: a link that may be nil, an address, and words that are made nil.
 use mathlib.Core.Path.{_≡_, refl, sym, ap, ap₂, _∙_, fun-ext}
 use mathlib.Core.List.{List}
 use mathlib.Core.Bool.{Bool, true, false}
-use mathlib.Core.Logic.{_≢_}
+use mathlib.Core.Logic.{_⊎_, inl, inr, _≢_}
 use Prim.Native.Nat.{ℕ, _+_, _-_, _*_, _/_, _≤_, _<_}
 use native.Mathlib.Omega.{arith}
 use lib.Dec.{leb, ltb, eqb}
 use lib.ListN.{length, getD, set, length-set}
 use lib.Seq.{getD-set-same, getD-set-other}
-use borrow.Author.Tests.{ltb-true, ltb-false, eqb-true, eqb-false, leb-true, le-leb, eq-eqb, ne-eqb, lt-ltb, le-ltb}
+use borrow.Author.Tests.{ltb-true, ltb-false, eqb-true, eqb-false, leb-true, le-leb, lt-ltb, le-ltb}
 use Rattle.base.specs.Tests.{pick, both}
 use Rattle.base.specs.Laws.{iff-eq, both-left, both-right, both-of}
 use Rattle.drive.specs.Address.{pda}
 use Rattle.image.specs.View.{Rec}
 use Rattle.image.specs.Image.{recOf}
-use Rattle.volume.specs.Files.{ptrsFor}
-use Rattle.volume.specs.Plans.{trimmed}
-use Rattle.volume.specs.Steps.{both-no, both-no-2}
+use Rattle.volume.specs.Words.{slotAt}
+use Rattle.volume.specs.Keys.{home, child, first, low}
+use Rattle.volume.specs.KeyLaws.{child-pair}
+use Rattle.volume.specs.Closed.{hasKey, entriesOf, entry-asked, has-only}
+use Rattle.volume.specs.Plans.{trimmed, shaped}
 
 -- the PDA of block b on drive d, or nil for 0
 abbrev pub linkTo : ℕ → ℕ → ℕ
@@ -26,38 +28,55 @@ linkTo d b = pick (eqb b 0) 0 (pda d b)
 unfoldable pub cleared : ℕ → Rec → Rec
 cleared a r w = pick (leb a w) 0 (r w)
 
--- the last of p pointer blocks of a file with k blocks: its entries past the last begin at this word
-pub trimmed-is : (k p : ℕ) (r : Rec) → p ≡ ptrsFor k → 1 ≤ p → trimmed k r ≡ cleared (8 + 2 * (k - (64 + 128 * (p - 1)))) r
-unfolding trimmed cleared ptrsFor
-trimmed-is k p r e h = fun-ext (λ w. ap (λ (t : Bool). pick t 0 (r w)) (iff-eq _ _ (there w) (back w)))
+-- pointer block k of a file with n blocks: the entries that L does not ask for begin at this word
+pub trimmed-is : (n k m : ℕ) (x : List ℕ) → m ≡ entriesOf n k → k ≤ 288 → trimmed n k (recOf x) ≡ cleared (slotAt m) (recOf x)
+unfolding trimmed cleared recOf
+trimmed-is n k m x e h = fun-ext (λ w. go w _ (ltb w 264) refl)
   where
-    there : (w : ℕ) → both (leb 8 w) (leb k (64 + 128 * (ptrsFor k - 1) + (w - 8) / 2)) ≡ true → leb (8 + 2 * (k - (64 + 128 * (p - 1)))) w ≡ true
-    there w q =
+    -- an entry that L asks for
+    asked : (w : ℕ) → 8 ≤ w → w < 264 → ltb (first (child k w)) n ≡ ltb ((w - 8) / 2) m
+    asked w a l =
+        ap (λ (q : ℕ). ltb (first q) n) (child-pair k w (slotAt ((w - 8) / 2)) (omega arith) (omega arith)) ∙ entry-asked n k ((w - 8) / 2) h (omega arith)
+        ∙ ap (ltb ((w - 8) / 2)) (sym e)
+
+    there : (w : ℕ) → w < 264 → both (leb 8 w) (leb n (first (child k w))) ≡ true → leb (slotAt m) w ≡ true
+    there w l q =
         let a = leb-true 8 w (both-left _ _ q) in
-        let b = leb-true k _ (both-right (leb 8 w) _ q) in
-        le-leb _ w (omega arith)
+        let z = sym (asked w a l) ∙ le-ltb (first (child k w)) n (leb-true n _ (both-right (leb 8 w) _ q)) in
+        le-leb _ w (omega (arith, ltb-false ((w - 8) / 2) m z))
 
-    back : (w : ℕ) → leb (8 + 2 * (k - (64 + 128 * (p - 1)))) w ≡ true → both (leb 8 w) (leb k (64 + 128 * (ptrsFor k - 1) + (w - 8) / 2)) ≡ true
-    back w q =
-        let a = leb-true (8 + 2 * (k - (64 + 128 * (p - 1)))) w q in
-        both-of (le-leb 8 w (omega arith)) (le-leb k _ (omega arith))
+    back : (w : ℕ) → w < 264 → leb (slotAt m) w ≡ true → both (leb 8 w) (leb n (first (child k w))) ≡ true
+    back w l q =
+        let a = leb-true (slotAt m) w q in
+        let z = asked w (omega arith) l ∙ le-ltb ((w - 8) / 2) m (omega arith) in
+        both-of (le-leb 8 w (omega arith)) (le-leb n _ (ltb-false (first (child k w)) n z))
 
--- the record r of place i of a file with p pointer blocks and k blocks: the last pointer block has its unused entries nil
-unfoldable pub contentOf : ℕ → ℕ → ℕ → Rec → Rec
-contentOf i p k r = pick (both (eqb i 0) (ltb 0 p)) (trimmed k r) r
+    nil : (t u : Bool) → _≡_ {A = ℕ} (pick t 0 0) (pick u 0 0)
+    nil true true = refl
+    nil true false = refl
+    nil false true = refl
+    nil false false = refl
 
-module _ (i p k : ℕ) (r : Rec) where
-  pub content-top : i ≤ 0 → 1 ≤ p → trimmed k r ≡ contentOf i p k r
-  unfolding contentOf
-  content-top h j = sym (ap (λ (t : Bool). pick t (trimmed k r) r) (both-of (eq-eqb i 0 (omega arith)) (lt-ltb 0 p j)))
+    go : (w y : ℕ) (t : Bool) → ltb w 264 ≡ t → pick (both (leb 8 w) (leb n (first (child k w)))) 0 (pick t y 0) ≡ pick (leb (slotAt m) w) 0 (pick t y 0)
+    go w y true q = let l = ltb-true w 264 q in ap (λ (t : Bool). pick t 0 y) (iff-eq _ _ (there w l) (back w l))
+    go w y false q = nil (both (leb 8 w) (leb n (first (child k w)))) (leb (slotAt m) w)
 
-  pub content-later : 0 < i → r ≡ contentOf i p k r
-  unfolding contentOf
-  content-later h = sym (ap (λ (t : Bool). pick t (trimmed k r) r) (both-no (eqb i 0) (ltb 0 p) (ne-eqb i 0 (λ z. omega arith))))
+-- a key below the FIB's is a pointer block, of those that the FIB names
+pub pointer-key : (n k : ℕ) → n ≤ 4160 → hasKey n k ≡ true → k < home → k ≤ 288
+pointer-key n k s h l = go (has-only n s (hasKey n) (λ _. refl) k h)
+  where
+    go : ((low n ≤ k) × (k < 289)) ⊎ ((home ≤ k) × (k ≤ home + n)) → k ≤ 288
+    go (inl q) = omega (arith, q .1)
+    go (inr q) = absurd (omega (arith, q .0))
 
-  pub content-direct : p < 1 → r ≡ contentOf i p k r
-  unfolding contentOf
-  content-direct h = sym (ap (λ (t : Bool). pick t (trimmed k r) r) (both-no-2 (eqb i 0) (ltb 0 p) (le-ltb 0 p (omega arith))))
+module _ (n k : ℕ) (r : Rec) where
+  pub shaped-pointer : k < home → trimmed n k r ≡ shaped n k r
+  unfolding shaped
+  shaped-pointer h = sym (ap (λ (t : Bool). pick t (trimmed n k r) r) (lt-ltb k home h))
+
+  pub shaped-other : home ≤ k → r ≡ shaped n k r
+  unfolding shaped
+  shaped-other h = sym (ap (λ (t : Bool). pick t (trimmed n k r) r) (le-ltb k home h))
 
 -- x is r with its bytes from a up to i nil
 pub record Clearing (r x : List ℕ) (a i : ℕ) : Type 0 where

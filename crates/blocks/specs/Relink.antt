@@ -2,32 +2,33 @@
 use mathlib.Core.Path.{_≡_, sym, ap, _∙_}
 use mathlib.Core.List.{List}
 use mathlib.Core.Bool.{true}
-use Prim.Native.Nat.{ℕ, suc, _+_, _≤_, _<_}
-use native.Mathlib.Omega.{arith}
-use Rattle.base.specs.Laws.{both-left}
+use Prim.Native.Nat.{ℕ, _≤_, _<_}
 use Rattle.drive.specs.Address.{pdaBlock}
 use Rattle.image.specs.View.{pair, put2}
 use Rattle.image.specs.Image.{view}
 use Rattle.volume.specs.Words.{serialAt, relativeAt, nextAt, previousAt}
-use Rattle.volume.specs.Files.{Partition, len, ptrsFor, ptrs, size, candidate, isFile, fileOf, place, placeOf, owned, nextOf, prevOf}
+use Rattle.volume.specs.Keys.{keyOf}
+use Rattle.volume.specs.Files.{Partition, len, present, candidate, fileOf, key, owned, above, below, link}
 use Rattle.volume.specs.Reads.{candidate-in}
-use Rattle.volume.specs.Owned.{own}
-use Rattle.volume.specs.Plans.{content, relinked}
+use Rattle.volume.specs.Index.{own, file-candidate}
+use Rattle.volume.specs.Closed.{hasKey, present-closed}
+use Rattle.volume.specs.Plans.{shaped, content, relinked}
 use Rattle.inspect.specs.Parts.{Opened}
 use Rattle.inspect.proofs.Laws.{opened-few}
-use Rattle.links.proofs.Laws.{formed, opened}
+use Rattle.links.proofs.Laws.{opened}
 use Rattle.blocks.specs.Fits.{next-small, prev-small}
-use Rattle.blocks.specs.Records.{contentOf}
 use Rattle.blocks.specs.Ready.{Ready}
 
--- block b is place i of file f, which has p pointer blocks and k blocks: the file can be read, the links are pairs of words, and the
--- record that they make is the definition's
-pub record Filed (π : Partition) (l : List ℕ) (b f p k i : ℕ) : Type 0 where
-  pub opened : Opened π l f p k
-  pub here : i < p + suc k
-  pub next : nextOf π (view l) f i < 4294967296
-  pub previous : prevOf π (view l) f i < 4294967296
-  pub is : put2 nextAt (nextOf π (view l) f i) (put2 previousAt (prevOf π (view l) f i) (contentOf i p k (view l b))) ≡ relinked π (view l) b
+-- block b is key k of file f, which has n blocks: the file can be read, the links are pairs of words, and the record that they make is
+-- the definition's
+pub record Filed (π : Partition) (l : List ℕ) (b f n k : ℕ) : Type 0 where
+  pub opened : Opened π l f
+  pub short : n ≤ 4160
+  pub here : present π (view l) f k ≡ true
+  pub has : hasKey n k ≡ true
+  pub next : link π (view l) f (above π (view l) f k) < 4294967296
+  pub previous : link π (view l) f (below π (view l) f k) < 4294967296
+  pub is : put2 nextAt (link π (view l) f (above π (view l) f k)) (put2 previousAt (link π (view l) f (below π (view l) f k)) (shaped n k (view l b))) ≡ relinked π (view l) b
 
 -- b is owned, and its serial leads to f
 module _ {π : Partition} {l : List ℕ} (b : ℕ) {x f : ℕ} (r : Ready π l) (o : owned π (view l) b ≡ true)
@@ -36,35 +37,22 @@ module _ {π : Partition} {l : List ℕ} (b : ℕ) {x f : ℕ} (r : Ready π l) 
   file-is = hf ∙ ap (pdaBlock (π .drive)) hx
 
   is-candidate : candidate π (view l) f ≡ true
-  unfolding isFile
-  is-candidate = rw file-is (both-left _ _ (own π (view l) b o .file))
+  is-candidate = rw file-is (file-candidate π (view l) _ (own π (view l) b o .file))
 
   pub file-in : f ≤ π .e
   file-in = candidate-in π (view l) f is-candidate .1
 
-  module _ {k p : ℕ} (hk : k ≡ len π (view l) f) (hp : p ≡ ptrsFor k) where
-    ptrs-are : p ≡ ptrs π (view l) f
-    unfolding ptrs
-    ptrs-are = hp ∙ ap ptrsFor hk
-
-    opens : Opened π l f p k
-    opens = opened (r .lies) (r .none) f k p is-candidate hk hp
-
-    pub ptrs-few : p ≤ 32
-    ptrs-few = opened-few opens
-
-    pub filed : (i : ℕ) → i ≡ placeOf p (view l b relativeAt) → Filed π l b f p k i
-    unfolding size place relinked content contentOf
-    filed i hi =
-        let here = own π (view l) b o .here in
-        let c = formed π (view l) (r .none) in
-        let q : ptrs π (view l) (fileOf π (view l) b) ≡ p = sym (ptrs-are ∙ ap (ptrs π (view l)) file-is) in
-        let j : len π (view l) (fileOf π (view l) b) ≡ k = sym (hk ∙ ap (len π (view l)) file-is) in
-        let at : i ≡ place π (view l) b = hi ∙ ap (λ (n : ℕ). placeOf n (view l b relativeAt)) (sym q) in
-        record {
-          opened = opens;
-          here = omega arith;
-          next = rw (file-is, at) (next-small π (view l) c (r .lies .few) b o);
-          previous = rw (file-is, at) (prev-small π (view l) c (r .lies .few) b o);
-          is = rw (← q, ← j, file-is, at);
-        }
+  pub filed : {n k : ℕ} → n ≡ len π (view l) f → k ≡ keyOf (view l b relativeAt) → Filed π l b f n k
+  unfolding key relinked content
+  filed {n} {k} hn hk =
+      let opens = opened (r .lies) (r .none) f is-candidate in
+      let here : present π (view l) f k ≡ true = rw (file-is, hk) (own π (view l) b o .here) in
+      record {
+        opened = opens;
+        short = rw hn (opened-few opens);
+        here = here;
+        has = rw hn (sym (present-closed π (view l) f (opens .formed) k) ∙ here);
+        next = rw (file-is, hk) (next-small π (view l) (r .lies .few) b o);
+        previous = rw (file-is, hk) (prev-small π (view l) (r .lies .few) b o);
+        is = rw (hn, file-is, hk);
+      }

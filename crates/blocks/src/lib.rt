@@ -1,16 +1,18 @@
 // The record that repair stores in each block, made of the image as it is: an unowned block's, an owned block's and the PIB's.
 ghost use mathlib.Core.Path.{_≡_};
 ghost use mathlib.Core.Bool.{true};
-ghost use Prim.Native.Nat.{_+_, _-_, _*_, _≤_, _<_};
+ghost use Prim.Native.Nat.{_+_, _*_, _≤_, _<_};
 ghost use lib.ListN.{length};
 ghost use Rattle.drive.specs.Address.{lda};
 ghost use Rattle.image.specs.View.{put, put2};
 ghost use Rattle.image.specs.Image.{view, recOf};
 ghost use Rattle.volume.specs.Words.{serialAt, fillerAt, nextAt, previousAt, freeHeadAt, freeTailAt, numberFreeAt};
-ghost use Rattle.volume.specs.Files.{partitionOf, ptrsFor, owned};
-ghost use Rattle.volume.specs.Plans.{asFiller, trimmed, relinked};
-ghost use Rattle.blocks.specs.Records.{linkTo, cleared, contentOf};
+ghost use Rattle.volume.specs.Files.{partitionOf, owned};
+ghost use Rattle.volume.specs.Closed.{hasKey};
+ghost use Rattle.volume.specs.Plans.{asFiller, trimmed, shaped, relinked};
+ghost use Rattle.blocks.specs.Records.{linkTo, cleared};
 ghost use Rattle.blocks.specs.Ready.{Ready};
+use inspect::HOME;
 
 // Words of a header, of a pointer block and of a PIB.
 const SERIAL: usize = 0;
@@ -79,42 +81,37 @@ fn cleared(r: [u8; 528], w: usize) -> [u8; 528]
     x
 }
 
-// The last of p pointer blocks of a file with k blocks, the entries past the last nil.
-fn trimmed(r: [u8; 528], p: usize, k: usize) -> [u8; 528]
-    requires { ⌜ (p ≡ ptrsFor k) × (1 ≤ p) × (k < 65536) ⌝ }
-    ensures { λ x. ⌜ recOf x ≡ trimmed k (recOf r) ⌝ }
+// Pointer block k of a file with n blocks, the entries that L does not ask for nil.
+fn trimmed(r: [u8; 528], n: usize, k: usize) -> [u8; 528]
+    requires { ⌜ (n ≤ 4160) × (k ≤ 288) ⌝ }
+    ensures { λ x. ⌜ recOf x ≡ trimmed n k (recOf r) ⌝ }
 {
-    let used = k - (64 + 128 * (p - 1));
-    cleared(r, SLOTS + 2 * used)
+    cleared(r, SLOTS + 2 * inspect::entries_of(n, k))
 }
 
-// Block b as place i of its file, with p pointer blocks and k blocks: the file's last pointer block has its unused entries nil.
-fn content(img: &[u8], b: usize, i: usize, p: usize, k: usize) -> [u8; 528]
-    requires { ⌜ (528 * b + 528 ≤ length (now img)) × (p ≡ ptrsFor k) × (k < 65536) ⌝ }
-    ensures { λ r. ⌜ recOf r ≡ contentOf i p k (view (now (img .entry)) b) ⌝ }
+// Block b as key k of its file, which has n blocks: a pointer block has its unused entries nil.
+fn content(img: &[u8], b: usize, n: usize, k: usize) -> [u8; 528]
+    requires { ⌜ (528 * b + 528 ≤ length (now img)) × (n ≤ 4160) × (hasKey n k ≡ true) ⌝ }
+    ensures { λ r. ⌜ recOf r ≡ shaped n k (view (now (img .entry)) b) ⌝ }
 {
     let x = image::record(img, b);
-    if 0 < i {
-        return x;
+    if k < HOME {
+        return trimmed(x, n, k);
     }
-    if p < 1 {
-        return x;
-    }
-    trimmed(x, p, k)
+    x
 }
 
-// The record of an owned block, with the links of its place in its file.
+// The record of an owned block, with the links of its key in its file.
 pub fn relinked(img: &[u8], drive: usize, s: usize, e: usize, b: usize) -> [u8; 528]
     requires { ⌜ (Ready (partitionOf drive s e) (now img)) × (b ≤ e) × (owned (partitionOf drive s e) (view (now img)) b ≡ true) ⌝ }
     ensures { λ r. ⌜ recOf r ≡ relinked (partitionOf drive s e) (view (now (img .entry))) b ⌝ }
 {
     let f = drive::pda_block(drive, image::pair(img, b, SERIAL));
-    let k = inspect::len(img, drive, s, e, f);
-    let p = inspect::ptrs_for(k);
-    let i = links::place_in(img, b, p);
-    let next = links::next_of(img, drive, s, e, f, p, k, i);
-    let previous = links::prev_of(img, drive, s, e, f, p, k, i);
-    let x = content(img, b, i, p, k);
+    let k = links::key_in(img, b);
+    let n = inspect::len(img, drive, s, e, f);
+    let next = links::next_of(img, drive, s, e, f, n, k);
+    let previous = links::prev_of(img, drive, s, e, f, n, k);
+    let x = content(img, b, n, k);
     let x = image::with_pair(x, PREVIOUS, previous);
     image::with_pair(x, NEXT, next)
 }

@@ -1,8 +1,8 @@
 -- What an open gate gives the calls behind it: where the blocks lie that they read and store, and what answers them.
-use mathlib.Core.Path.{_≡_, refl, ap}
-use mathlib.Core.List.{List, _∷_, _++_}
+use mathlib.Core.Path.{_≡_, refl, ap, _∙_}
+use mathlib.Core.List.{List}
 use mathlib.Core.Bool.{Bool, true, false}
-use Prim.Native.Nat.{ℕ, zero, suc, _+_, _-_, _≤_, _<_}
+use Prim.Native.Nat.{ℕ, zero, suc, _-_, _≤_, _<_}
 use native.Mathlib.Omega.{arith}
 use lib.Dec.{eqb}
 use lib.ListN.{length}
@@ -17,15 +17,17 @@ use Rattle.image.specs.Image.{view}
 use Rattle.image.specs.Stores.{stored}
 use Rattle.image.specs.Saves.{Made}
 use Rattle.volume.specs.Words.{nextAt, numberFreeAt}
-use Rattle.volume.specs.Files.{Partition, partitionOf, candidate, len, ptrsFor, free, freeHead, chain, sound}
-use Rattle.volume.specs.Plans.{Plan, stores, nextBlock, freeTail, createPlan, describePlan}
+use Rattle.volume.specs.Files.{Partition, partitionOf, candidate, free, freeHead, chain}
+use Rattle.volume.specs.Plans.{Plan, stores, freeAt, freeTail, takenStores, createPlan, describePlan}
 use Rattle.volume.specs.Calls.{Planned, refuse, finish, room, createIn, describeIn, Answered}
 use Rattle.volume.specs.Reads.{inside-of, candidate-in}
 use Rattle.volume.specs.declared.Answer.{Answer}
-use Rattle.frame.specs.Sound.{occ-here, occ-more, Starts, free-in, sound-clean, sound-number, free-starts, head-free, tail-free}
+use Rattle.frame.specs.Sound.{free-in, sound-clean, sound-number, head-free, tail-free}
+use Rattle.frame.specs.Taking.{taken}
 use Rattle.inspect.specs.Parts.{Opened}
 use Rattle.inspect.proofs.Laws.{wf-opened}
 use Rattle.records.specs.Records.{Block, created, described}
+use Rattle.records.proofs.Laws.{block-in}
 use Rattle.change.specs.Gate.{Opens, refusal, completion}
 
 -- ---- answers
@@ -54,22 +56,11 @@ chain-few π v (suc n) b = go (eqb (pair v b nextAt) 0) refl (chain-few π v n _
     go true q h = rw (chain, q) (omega arith)
     go false q h = rw (chain, q) (omega arith)
 
--- the blocks that a list begins with stand in it
-first-of : {x : ℕ} {xs l : List ℕ} → Starts (x ∷ xs) l → 0 < occ x l
-first-of {x} {xs} {l} r = omega (arith, ap (occ x) (r .is), occ-here x (xs ++ r .rest))
-
-second-of : {x y : ℕ} {xs l : List ℕ} → Starts (x ∷ y ∷ xs) l → 0 < occ y l
-second-of {x} {y} {xs} {l} r = omega (arith, ap (occ y) (r .is), occ-more y x (y ∷ (xs ++ r .rest)), occ-here y (xs ++ r .rest))
-
-third-of : {x y z : ℕ} {xs l : List ℕ} → Starts (x ∷ y ∷ z ∷ xs) l → 0 < occ z l
-third-of {x} {y} {z} {xs} {l} r =
-    omega (arith, ap (occ z) (r .is), occ-more z x (y ∷ z ∷ (xs ++ r .rest)), occ-more z y (z ∷ (xs ++ r .rest)), occ-here z (xs ++ r .rest))
-
 -- ---- behind the gate
 
 module _ {d : ℕ} {l : List ℕ} {s e : ℕ} (o : Opens d l s e) where
   pub block-to : (b : ℕ) → b ≤ e → Block l b
-  block-to b h = record { within = omega (arith, o .lies .within); few = omega (arith, o .lies .few) }
+  block-to = block-in (o .lies)
 
   pub block-pib : Block l s
   block-pib = block-to s (omega (arith, o .lies .order))
@@ -93,19 +84,23 @@ module _ {d : ℕ} {l : List ℕ} {s e : ℕ} (o : Opens d l s e) where
   pub block-tail : Block l (freeTail (partitionOf d s e) (view l))
   block-tail = block-free _ (tail-free (partitionOf d s e) (view l) (o .sound))
 
-  pub block-second : (a q : ℕ) → a ≡ freeHead (partitionOf d s e) (view l) → q ≡ nextBlock (partitionOf d s e) (view l) a
-      → 2 ≤ room (partitionOf d s e) (view l) → Block l q
-  block-second a q ha hq n = rw (hq, ha) (block-free _ (second-of (free-starts (partitionOf d s e) (view l) (o .sound) 2 n)))
-
-  pub block-third : (a q z : ℕ) → a ≡ freeHead (partitionOf d s e) (view l) → q ≡ nextBlock (partitionOf d s e) (view l) a → z ≡ nextBlock (partitionOf d s e) (view l) q
-      → 3 ≤ room (partitionOf d s e) (view l) → Block l z
-  block-third a q z ha hq hz n = rw (hz, hq, ha) (block-free _ (third-of (free-starts (partitionOf d s e) (view l) (o .sound) 3 n)))
+  -- the free block with place i
+  pub block-free-at : (i b : ℕ) → b ≡ freeAt (partitionOf d s e) (view l) i → i < room (partitionOf d s e) (view l) → Block l b
+  block-free-at i b q h =
+      rw q (block-to _ (inside-of (partitionOf d s e) _ (taken (partitionOf d s e) (view l) (o .sound) (room (partitionOf d s e) (view l)) (omega arith) i h .0) .1))
 
   -- the index of a file can be read
-  pub file-opened : (f k p : ℕ) → candidate (partitionOf d s e) (view l) f ≡ true → k ≡ len (partitionOf d s e) (view l) f → p ≡ ptrsFor k
-      → Opened (partitionOf d s e) l f p k
-  file-opened f k p c hk hp =
-      wf-opened f k p (o .lies) (candidate-in (partitionOf d s e) (view l) f c .1) hk hp (sound-clean (partitionOf d s e) (view l) (o .sound) f c)
+  pub file-opened : (f : ℕ) → candidate (partitionOf d s e) (view l) f ≡ true → Opened (partitionOf d s e) l f
+  file-opened f c = wf-opened f (o .lies) (candidate-in (partitionOf d s e) (view l) f c .1) (sound-clean (partitionOf d s e) (view l) (o .sound) f c)
+
+-- the free blocks, one behind the other
+pub free-first : (π : Partition) (v : View) (h : ℕ) → h ≡ freeHead π v → h ≡ freeAt π v 0
+unfolding freeAt
+free-first π v h q = q
+
+pub free-next : (π : Partition) (v : View) (i b g : ℕ) → b ≡ freeAt π v i → g ≡ pdaBlock (π .drive) (pair v b nextAt) → g ≡ freeAt π v (suc i)
+unfolding freeAt
+free-next π v i b g p q = q ∙ ap (λ (x : ℕ). pdaBlock (π .drive) (pair v x nextAt)) p
 
 -- ---- describe and create
 
@@ -123,7 +118,7 @@ module _ (π : Partition) (v : View) (kind : ℕ) where
   unfolding createIn
   create-few m hm n = rw (createIn, le-leb (room π v) 1 (omega arith))
 
-  pub create-is : (m h g : ℕ) → m ≡ room π v → 1 < m → h ≡ freeHead π v → g ≡ nextBlock π v h
+  pub create-is : (m h g : ℕ) → m ≡ room π v → 1 < m → h ≡ freeHead π v → g ≡ freeAt π v 1
       → createIn π v kind ≡ finish h (created (π .drive) v (π .s) h g kind)
-  unfolding createIn createPlan created
+  unfolding createIn createPlan takenStores freeAt created
   create-is m h g hm n hh hg = rw (hg, hh, createIn, lt-leb (room π v) 1 (omega arith))

@@ -7,15 +7,16 @@ use native.Mathlib.Omega.{arith}
 use lib.Dec.{leb, ltb, eqb}
 use lib.ListN.{length}
 use borrow.Author.Tests.{leb-true, le-leb, le-ltb, eqb-true}
-use Rattle.base.specs.Tests.{pick, every}
+use Rattle.base.specs.Tests.{every}
 use Rattle.base.specs.Laws.{every-at}
 use Rattle.volume.specs.Steps.{every-cons, every-nil}
 use Rattle.base.specs.declared.Refusal.{Refusal}
 use Rattle.base.specs.declared.Refusal.the-variants.{NoCandidate, BadBlock, Full}
 use Rattle.image.specs.Image.{view}
 use Rattle.image.specs.Saves.{words}
-use Rattle.volume.specs.Files.{Partition, partitionOf, candidate, len, reach}
-use Rattle.volume.specs.Plans.{grows}
+use Rattle.volume.specs.Keys.{reach}
+use Rattle.volume.specs.Files.{Partition, partitionOf, candidate, len}
+use Rattle.volume.specs.Writes as writes
 use Rattle.volume.specs.Calls.{Planned, refuse, through, room, createIn, appendIn, writeIn, create, write, planned}
 use Rattle.volume.specs.declared.Part.{Part}
 use Rattle.volume.specs.declared.Part.the-variants as part
@@ -87,14 +88,14 @@ module _ (d : ℕ) (l : List ℕ) (s f r : ℕ) (block : List ℕ) where
   abbrev pub appends : Partition → Bool
   appends π = every (candidate π (view l) f ∷ ltb r reach ∷ eqb r (len π (view l) f) ∷ [])
 
-  -- a data block, and a pointer block where one is new
+  -- the data block, and the pointer blocks over it that are new
   abbrev pub appendNeeds : Partition → ℕ
-  appendNeeds π = pick (grows π (view l) f) 2 1
+  appendNeeds π = writes.needs π (view l) f r
 
   abbrev pub WriteCrowded : Type 0
   WriteCrowded = Crowded d l s (eqb (length block) 512) appends appendNeeds
 
-  append-few : (π : Partition) → appendIn π (view l) f (words block) .outcome ≡ Refused Full → room π (view l) < appendNeeds π + 1
+  append-few : (π : Partition) → appendIn π (view l) f r (words block) .outcome ≡ Refused Full → room π (view l) < appendNeeds π + 1
   unfolding appendIn
   append-few π h = go (leb (room π (view l)) (appendNeeds π)) refl
     where

@@ -4,19 +4,22 @@ use mathlib.Core.Path.{_≡_, refl, sym, ap, _∙_}
 use mathlib.Core.Logic.{_≢_}
 use mathlib.Core.Bool.{Bool, true, false, true≢false}
 use mathlib.Core.List.{List, [], _∷_, _++_}
-use Prim.Native.Nat.{ℕ, zero, suc, _+_, _-_, _≤_, _<_}
+use Prim.Native.Nat.{ℕ, zero, suc, _+_, _≤_, _<_}
 use native.Mathlib.Omega.{arith}
-use lib.Dec.{ltb, eqb}
+use lib.Dec.{eqb}
 use lib.ListN.{length, length-append}
-use borrow.Author.Tests.{eqb-true, ne-eqb}
+use borrow.Author.Tests.{eqb-true, eqb-false, ne-eqb}
 use Rattle.base.specs.Tests.{pick, occ}
 use Rattle.base.specs.Laws.{both-of}
 use Rattle.image.specs.View.{View, Store, places}
-use Rattle.volume.specs.Files.{Partition, inside, candidate, isFile, len, ptrs, nth, size, owned, sound, free, freeHead}
-use Rattle.volume.specs.Owned.{nth-fib, fib-in, size-pos, size-last, owned-in}
-use Rattle.volume.specs.Meaning.{Names, named-owned, one-place}
+use Rattle.volume.specs.Keys.{home}
+use Rattle.volume.specs.KeyLaws.{low-home}
+use Rattle.volume.specs.Files.{Partition, inside, candidate, wellFormed, isFile, len, end, spot, present, least, owned, sound, free}
+use Rattle.volume.specs.Index.{Names, named-owned, one-key, owned-in, wf-of, spot-home, present-home}
+use Rattle.volume.specs.Order.{least-present}
+use Rattle.volume.specs.Closed.{least-closed}
 use Rattle.volume.specs.Reads.{inside-of}
-use Rattle.volume.specs.Plans.{Plan, st, stores, pointerStores, topStores, nextBlock, freeTail}
+use Rattle.volume.specs.Plans.{Plan, stores, freeAt, freeTail}
 use Rattle.volume.specs.Calls.{room}
 use Rattle.frame.specs.Sound.{sound-clean, sound-once, free-in, free-starts, tail-free}
 
@@ -67,36 +70,6 @@ pub some-length : (t : Bool) (x : Store) → length (pick t [] (x ∷ [])) ≤ 1
 some-length true x = omega arith
 some-length false x = omega arith
 
-module _ (d : ℕ) (v : View) (b : ℕ) where
-  pub pointer-times : (f a q p k top : ℕ) (t : Bool) → times b (pointerStores d v f a q p k top t) ≡ pick (ltb k 64) 0 (pick t (hit b q) (hit b top))
-  unfolding pointerStores
-  pointer-times f a q p k top t = go (ltb k 64) t _ _
-    where
-      go : (c t : Bool) (x y : Store) → times b (pick c [] (pick t (x ∷ []) (y ∷ []))) ≡ pick c 0 (pick t (hit b (x .at)) (hit b (y .at)))
-      go true t x y = times-none b
-      go false true x y = some-times b false x
-      go false false x y = some-times b false y
-
-  pub top-times : (q p top : ℕ) (t : Bool) → times b (topStores d v q p top t) ≡ pick t (pick (ltb p 1) 0 (hit b top)) 0
-  unfolding topStores
-  top-times q p top true = some-times b (ltb p 1) (st top _)
-  top-times q p top false = times-none b
-
-module _ (d : ℕ) (v : View) where
-  pub pointer-length : (f a q p k top : ℕ) (t : Bool) → length (pointerStores d v f a q p k top t) ≤ 1
-  unfolding pointerStores
-  pointer-length f a q p k top t = go (ltb k 64) t _ _
-    where
-      go : (c t : Bool) (x y : Store) → length (pick c [] (pick t (x ∷ []) (y ∷ []))) ≤ 1
-      go true t x y = omega arith
-      go false true x y = omega arith
-      go false false x y = omega arith
-
-  pub top-length : (q p top : ℕ) (t : Bool) → length (topStores d v q p top t) ≤ 1
-  unfolding topStores
-  top-length q p top true = some-length (ltb p 1) _
-  top-length q p top false = omega arith
-
 -- ---- a block of a sound partition is free, owned, the PIB, or outside, and but one of these
 
 module _ (π : Partition) (v : View) (ok : sound π v ≡ true) (b : ℕ) where
@@ -123,25 +96,15 @@ module _ (π : Partition) (v : View) (ok : sound π v ≡ true) (b : ℕ) where
           let none : occ b (free π v) ≡ 0 = spent (occ b (free π v)) (λ m. true≢false (sym (free-in π v ok b m) ∙ i)) in
           omega (arith, none, without (owned π v b) refl i, hit-one b (π .s))
 
-  pub occ-two : (x y : ℕ) (l : List ℕ) → occ b (x ∷ y ∷ l) ≡ hit b x + (hit b y + occ b l)
-  unfolding occ
-  occ-two x y l = refl
-
-  -- the first free blocks, and the last
-  pub free-two : 2 ≤ room π v → hit b (freeHead π v) + hit b (nextBlock π v (freeHead π v)) ≤ occ b (free π v)
+  -- the first two free blocks, and the last
+  pub free-two : 2 ≤ room π v → hit b (freeAt π v 0) + hit b (freeAt π v 1) ≤ occ b (free π v)
+  unfolding freeAt occ
   free-two n =
       let r = free-starts π v ok 2 n in
-      omega (arith, ap (occ b) (r .is), occ-two (freeHead π v) (nextBlock π v (freeHead π v)) (r .rest))
-
-  pub occ-three : (x y z : ℕ) (l : List ℕ) → occ b (x ∷ y ∷ z ∷ l) ≡ hit b x + (hit b y + (hit b z + occ b l))
-  unfolding occ
-  occ-three x y z l = refl
-
-  pub free-three : 3 ≤ room π v
-      → hit b (freeHead π v) + (hit b (nextBlock π v (freeHead π v)) + hit b (nextBlock π v (nextBlock π v (freeHead π v)))) ≤ occ b (free π v)
-  free-three n =
-      let r = free-starts π v ok 3 n in
-      omega (arith, ap (occ b) (r .is), occ-three (freeHead π v) (nextBlock π v (freeHead π v)) (nextBlock π v (nextBlock π v (freeHead π v))) (r .rest))
+      omega (arith, ap (occ b) (r .is), two (freeAt π v 0) (freeAt π v 1) (r .rest))
+    where
+      two : (x y : ℕ) (l : List ℕ) → occ b (x ∷ y ∷ l) ≡ hit b x + (hit b y + occ b l)
+      two x y l = refl
 
   pub free-last : hit b (freeTail π v) ≤ occ b (free π v)
   free-last = go (eqb b (freeTail π v)) refl
@@ -153,74 +116,71 @@ module _ (π : Partition) (v : View) (ok : sound π v ≡ true) (b : ℕ) where
 -- ---- the blocks of a file
 
 module _ (π : Partition) (v : View) (ok : sound π v ≡ true) (f : ℕ) (c : candidate π v f ≡ true) (b : ℕ) where
-  pub a-file : isFile π v f ≡ true
+  a-file : isFile π v f ≡ true
   unfolding isFile
   a-file = both-of c (sound-clean π v ok f c)
 
-  pub at-place : (i : ℕ) → i < size π v f → Names π v f i (nth π v f i)
-  at-place i l = record { file = a-file; here = l; is = refl }
-
-  pub apart : (i j : ℕ) → i < size π v f → j < size π v f → i ≢ j → nth π v f i ≢ nth π v f j
-  apart i j l m n q = n (one-place π v f f i j (nth π v f j) (record { file = a-file; here = l; is = q }) (at-place j m))
-
-  -- a block that is hit is owned, and no two of different places are
-  pub hit-owned : (i : ℕ) → i < size π v f → (t : Bool) → eqb b (nth π v f i) ≡ t → bit t ≤ bit (owned π v b)
-  hit-owned i l true q = rw (eqb-true b (nth π v f i) q, named-owned π v f i (nth π v f i) (at-place i l)) (omega arith)
-  hit-owned i l false q = omega arith
-
-  pub not-both : (i j : ℕ) → i < size π v f → j < size π v f → i ≢ j → (t u : Bool) → eqb b (nth π v f i) ≡ t → eqb b (nth π v f j) ≡ u → bit t + bit u ≤ 1
-  not-both i j l m n true true p q = absurd (apart i j l m n (sym (eqb-true b (nth π v f i) p) ∙ eqb-true b (nth π v f j) q))
-  not-both i j l m n true false p q = omega arith
-  not-both i j l m n false u p q = bit-one u
-    where
-      bit-one : (u : Bool) → bit false + bit u ≤ 1
-      bit-one true = omega arith
-      bit-one false = omega arith
-
   abbrev pub top : ℕ
-  top = nth π v f 0
+  top = spot π v f (least π v f)
 
   abbrev pub last : ℕ
-  last = nth π v f (ptrs π v f + len π v f)
+  last = spot π v f (end π v f)
 
-  -- the first in link order where there is a pointer block, the last where there is a data block, and the FIB: none twice
-  pub file-hits : (u w : Bool) → (u ≡ true → 1 ≤ ptrs π v f) → (w ≡ true → 1 ≤ len π v f)
-      → pick u (hit b top) 0 + (pick w (hit b last) 0 + hit b f) ≤ bit (owned π v b)
-  file-hits u w hu hw = go u w hu hw
+  formed : wellFormed π v f ≡ true
+  formed = sound-clean π v ok f c
+
+  here : (k : ℕ) → present π v f k ≡ true → Names π v f k (spot π v f k)
+  here k p = record { file = a-file; here = p; is = refl }
+
+  -- a block that is hit is owned, and no two of different keys are
+  one : (k : ℕ) → present π v f k ≡ true → hit b (spot π v f k) ≤ bit (owned π v b)
+  one k p = go (eqb b (spot π v f k)) refl
     where
-      fib : hit b f ≡ hit b (nth π v f (ptrs π v f))
-      fib = ap (hit b) (sym (nth-fib π v f))
+      go : (t : Bool) → eqb b (spot π v f k) ≡ t → bit t ≤ bit (owned π v b)
+      go true q = rw (eqb-true b (spot π v f k) q, named-owned π v f k (spot π v f k) (here k p)) (omega arith)
+      go false q = omega arith
 
-      fit : (i : ℕ) → i < size π v f → hit b (nth π v f i) ≤ bit (owned π v b)
-      fit i l = hit-owned i l (eqb b (nth π v f i)) refl
+  two : (j k : ℕ) → present π v f j ≡ true → present π v f k ≡ true → j ≢ k → hit b (spot π v f j) + hit b (spot π v f k) ≤ 1
+  two j k p q n = go (eqb b (spot π v f j)) refl (eqb b (spot π v f k)) refl
+    where
+      go : (t : Bool) → eqb b (spot π v f j) ≡ t → (u : Bool) → eqb b (spot π v f k) ≡ u → bit t + bit u ≤ 1
+      go true x true y = absurd (n (one-key π v f f j k (spot π v f k) (record { file = a-file; here = p; is = sym (eqb-true b (spot π v f j) x) ∙ eqb-true b (spot π v f k) y }) (here k q)))
+      go true x false y = omega arith
+      go false x true y = omega arith
+      go false x false y = omega arith
 
-      two : (i j : ℕ) → i < size π v f → j < size π v f → i ≢ j → hit b (nth π v f i) + hit b (nth π v f j) ≤ 1
-      two i j l m n = not-both i j l m n (eqb b (nth π v f i)) (eqb b (nth π v f j)) refl refl
+  -- the first in link order where it is not the FIB, the last where it is not, and the FIB: none twice
+  pub file-hits : (u w : Bool) → eqb (least π v f) home ≡ u → eqb (len π v f) 0 ≡ w
+      → pick u 0 (hit b top) + (pick w 0 (hit b last) + hit b f) ≤ bit (owned π v b)
+  file-hits u w hu hw = go u hu w hw
+    where
+      fib : hit b f ≡ hit b (spot π v f home)
+      fib = ap (hit b) (sym (spot-home π v f))
 
-      one-f : hit b f ≤ bit (owned π v b)
-      one-f = omega (arith, fib, fit (ptrs π v f) (fib-in π v f))
+      p-least : present π v f (least π v f) ≡ true
+      p-least = least-present π v f formed .1
 
-      one-top : hit b top ≤ bit (owned π v b)
-      one-top = fit 0 (size-pos π v f)
+      p-last : present π v f (end π v f) ≡ true
+      p-last = wf-of π v f formed .ends
 
-      one-last : hit b last ≤ bit (owned π v b)
-      one-last = fit (ptrs π v f + len π v f) (size-last π v f)
+      p-home : present π v f home ≡ true
+      p-home = present-home π v f
 
-      top-f : 1 ≤ ptrs π v f → hit b top + hit b f ≤ 1
-      top-f n = omega (arith, fib, two 0 (ptrs π v f) (size-pos π v f) (fib-in π v f) (λ q. omega arith))
+      under : least π v f ≤ home
+      under = omega (arith, least-closed π v f formed, low-home (len π v f))
 
-      last-f : 1 ≤ len π v f → hit b last + hit b f ≤ 1
-      last-f n = omega (arith, fib, two (ptrs π v f + len π v f) (ptrs π v f) (size-last π v f) (fib-in π v f) (λ q. omega arith))
+      top-fib : eqb (least π v f) home ≡ false → hit b top + hit b f ≤ 1
+      top-fib q = omega (arith, fib, two (least π v f) home p-least p-home (eqb-false (least π v f) home q))
 
-      top-last : 1 ≤ len π v f → hit b top + hit b last ≤ 1
-      top-last n = two 0 (ptrs π v f + len π v f) (size-pos π v f) (size-last π v f) (λ q. omega arith)
+      last-fib : eqb (len π v f) 0 ≡ false → hit b last + hit b f ≤ 1
+      last-fib q = omega (arith, fib, two (end π v f) home p-last p-home (λ z. omega (arith, eqb-false (len π v f) 0 q)))
 
-      go : (u w : Bool) → (u ≡ true → 1 ≤ ptrs π v f) → (w ≡ true → 1 ≤ len π v f)
-          → pick u (hit b top) 0 + (pick w (hit b last) 0 + hit b f) ≤ bit (owned π v b)
-      go true true hu hw = omega (arith, one-f, one-top, one-last, top-f (hu refl), last-f (hw refl), top-last (hw refl))
-      go true false hu hw = omega (arith, one-f, one-top, top-f (hu refl))
-      go false true hu hw = omega (arith, one-f, one-last, last-f (hw refl))
-      go false false hu hw = one-f′
-        where
-          one-f′ : 0 + (0 + hit b f) ≤ bit (owned π v b)
-          one-f′ = omega (arith, one-f)
+      top-last : eqb (len π v f) 0 ≡ false → hit b top + hit b last ≤ 1
+      top-last q = two (least π v f) (end π v f) p-least p-last (λ z. omega (arith, under, eqb-false (len π v f) 0 q))
+
+      go : (u : Bool) → eqb (least π v f) home ≡ u → (w : Bool) → eqb (len π v f) 0 ≡ w
+          → pick u 0 (hit b top) + (pick w 0 (hit b last) + hit b f) ≤ bit (owned π v b)
+      go true p true q = omega (arith, fib, one home p-home)
+      go true p false q = omega (arith, fib, one home p-home, one (end π v f) p-last, last-fib q)
+      go false p true q = omega (arith, fib, one home p-home, one (least π v f) p-least, top-fib p)
+      go false p false q = omega (arith, fib, one home p-home, one (least π v f) p-least, one (end π v f) p-last, top-fib p, last-fib q, top-last q)

@@ -3,24 +3,23 @@
 use mathlib.Core.Path.{_≡_, refl, sym, ap, ap₂, _∙_, subst}
 use mathlib.Core.Logic.{_≢_}
 use mathlib.Core.List.{List, [], _∷_}
-use mathlib.Core.Bool.{Bool, true, false, not, true≢false}
-use Prim.Native.Nat.{ℕ, zero, suc, _+_, _-_}
+use mathlib.Core.Bool.{Bool, true, false, true≢false}
+use Prim.Native.Nat.{ℕ}
 use native.Mathlib.Omega.{arith}
 use lib.Dec.{eqb}
 use lib.ListN.{length}
 use borrow.Author.Tests.{eqb-true, ne-eqb}
-use Rattle.base.specs.Tests.{pick, both}
+use Rattle.base.specs.Tests.{pick}
 use Rattle.image.specs.View.{View}
 use Rattle.image.specs.Saves.{words}
 use Rattle.image.specs.Image.{view, Bytes}
-use Rattle.volume.specs.Files.{Partition, partitionOf, unowned, candidate, wellFormed, freeHead, sound}
-use Rattle.volume.specs.Agree.{Clean}
+use Rattle.volume.specs.Files.{Partition, partitionOf, unowned, freeHead, sound}
+use Rattle.volume.specs.Frame.{Clean}
 use Rattle.volume.specs.Plans.{repairPlan}
 use Rattle.frame.specs.Sound.{sound-clean}
-use Rattle.crash.specs.Cut.{Good}
-use Rattle.base.specs.declared.Refusal.the-variants.{BadBuffer, Malformed, Unsound, NothingFree}
-use Rattle.volume.specs.Files.{isMalformed}
-use Rattle.volume.specs.Answers.{partition, lowest, lowestMalformed, checked, checkIn, checkClean, tallied}
+use Rattle.frame.specs.Clean.{of-clean}
+use Rattle.base.specs.declared.Refusal.the-variants.{BadBuffer, Unsound, NothingFree}
+use Rattle.volume.specs.Answers.{partition, lowestMalformed, checked, checkIn, checkClean, tallied}
 use Rattle.volume.specs.Answers as answers
 use Rattle.volume.specs.Calls as calls
 use Rattle.volume.specs.Calls.{Call, create, write, describe, destroy, repair, Planned, refuse, finish, planned, through, unmarred, repairIn, createIn, writeIn, describeIn, destroyIn}
@@ -28,7 +27,6 @@ use Rattle.volume.specs.declared.Found.{Found}
 use Rattle.volume.specs.declared.Found.the-variants.{At, Nothing}
 use Rattle.volume.specs.declared.Part.{Part}
 use Rattle.volume.specs.declared.Part.the-variants as part
-use Rattle.volume.specs.declared.Outcome.{Outcome}
 use Rattle.volume.specs.declared.Outcome.the-variants.{Refused}
 use Rattle.frame.specs.Fitting.{words-of}
 use Rattle.crash.specs.Settled.{Settled, refused, create-settled, describe-settled, destroy-settled, write-settled, repair-settled}
@@ -36,25 +34,6 @@ use Rattle.crash.specs.SameFile.{SameFiles}
 use Rattle.crash.specs.Effect.{Effect}
 use Rattle.crash.specs.Held.{Held, placed}
 use Rattle.crash.specs.Statement.{Proper, isDone, Accepted}
-
--- ---- no malformed candidate
-
-lowest-none : (p : ℕ → Bool) (a n : ℕ) → ((b : ℕ) → p b ≡ false) → lowest p a n ≡ Nothing
-unfolding lowest
-lowest-none p a zero h = refl
-lowest-none p a (suc n) h = go (p a) (h a) (lowest-none p (a + 1) n h)
-  where
-    go : (t : Bool) → t ≡ false → lowest p (a + 1) n ≡ Nothing → elim t [ true ↦ At a | false ↦ lowest p (a + 1) n ] ≡ Nothing
-    go true q ih = absurd (true≢false q)
-    go false q ih = ih
-
-pub clean-unmarred : (π : Partition) (v : View) → Clean π v → lowestMalformed π v ≡ Nothing
-unfolding lowestMalformed isMalformed both
-clean-unmarred π v c = lowest-none (isMalformed π v) (π.s + 1) (π.e - π.s) (λ f. go f (candidate π v f) refl)
-  where
-    go : (f : ℕ) (t : Bool) → candidate π v f ≡ t → both t (not (wellFormed π v f)) ≡ false
-    go f true q = ap not (c f q)
-    go f false q = refl
 
 -- ---- acceptance
 
@@ -75,7 +54,7 @@ module _ {d s e : ℕ} {l : List ℕ} (h : Held d s e l) where
   unfolding checked checkIn tallied
   sound-accepted ok =
       ap (λ (x : Part). isDone (answers.inPartition x (λ e. checkIn (partitionOf d s e) v))) (h .good)
-      ∙ ap (λ (m : Found). isDone (checkClean π v m)) (clean-unmarred π v (sound-clean π v ok)) ∙ ap (λ (t : Bool). isDone (pick t (tallied π v) (Refused Unsound))) ok
+      ∙ ap (λ (m : Found). isDone (checkClean π v m)) (of-clean π v (sound-clean π v ok)) ∙ ap (λ (t : Bool). isDone (pick t (tallied π v) (Refused Unsound))) ok
 
 pub accepted-sound : (d s : ℕ) (l : List ℕ) → Bytes l → Accepted d s l → Sound d s l
 unfolding checked checkIn
@@ -110,7 +89,7 @@ module _ {d s e : ℕ} {l : List ℕ} (h : Held d s e l) where
   unfolding through
   through-is ok fits k =
       ap (λ (x : Part). calls.inPartition x (λ e. let ρ = partitionOf d s e in pick fits (unmarred (lowestMalformed ρ v₂) (pick (sound ρ v₂) (k ρ) (refuse Unsound))) (refuse BadBuffer))) (h .good)
-      ∙ ap₂ (λ (m : Found) (t : Bool). pick fits (unmarred m (pick t (k π₂) (refuse Unsound))) (refuse BadBuffer)) (clean-unmarred π₂ v₂ (sound-clean π₂ v₂ ok)) ok
+      ∙ ap₂ (λ (m : Found) (t : Bool). pick fits (unmarred m (pick t (k π₂) (refuse Unsound))) (refuse BadBuffer)) (of-clean π₂ v₂ (sound-clean π₂ v₂ ok)) ok
 
   through-settled : sound (partitionOf d s e) (view l) ≡ true → {f : ℕ} {E : View → Type 0} (fits : Bool) (k : Partition → Planned) → (fits ≡ true → Settled (partitionOf d s e) (view l) f E (k (partitionOf d s e)))
       → Settled (partitionOf d s e) (view l) f E (through d l s fits k)
@@ -132,7 +111,7 @@ module _ {d s e : ℕ} {l : List ℕ} (h : Held d s e l) where
   unfolding planned
   repair-through c =
       ap (λ (x : Part). calls.inPartition x (λ e. let ρ = partitionOf d s e in unmarred (lowestMalformed ρ v₂) (repairIn ρ v₂))) (h .good)
-      ∙ ap (λ (m : Found). unmarred m (repairIn π₂ v₂)) (clean-unmarred π₂ v₂ c)
+      ∙ ap (λ (m : Found). unmarred m (repairIn π₂ v₂)) (of-clean π₂ v₂ c)
 
   -- every call
   pub settled : sound (partitionOf d s e) (view l) ≡ true → (c : Call) → Proper c → Settled (partitionOf d s e) (view l) (block c) (Effect (partitionOf d s e) c (view l)) (planned d l s c)

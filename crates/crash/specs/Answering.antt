@@ -2,20 +2,20 @@
 -- stores made, which the stopped call answers, tells which of the two its file is.
 use mathlib.Core.Path.{_≡_, refl, sym, ap, _∙_, subst}
 use mathlib.Core.Logic.{_≢_}
-use mathlib.Core.List.{List, [], _∷_}
+use mathlib.Core.List.{List, _∷_}
 use mathlib.Core.Bool.{Bool, true, false}
-use Prim.Native.Nat.{ℕ, _≤_, _<_}
+use Prim.Native.Nat.{ℕ, _+_, _≤_, _<_}
 use native.Mathlib.Omega.{arith}
 use lib.Dec.{ltb}
 use lib.ListN.{take, length, length-append}
 use borrow.Author.Tests.{ltb-true, ltb-false, lt-ltb}
-use Rattle.base.specs.Tests.{pick, all}
+use Rattle.base.specs.Tests.{pick}
 use Rattle.image.specs.View.{View, Store}
 use Rattle.image.specs.Stores.{stored}
 use Rattle.volume.specs.Files.{Partition}
 use Rattle.volume.specs.Plans.{Plan, stores}
 use lib.Seq.{take-all, length-take-le}
-use Rattle.volume.specs.Calls.{Call, repair, Planned, planned, Answered}
+use Rattle.volume.specs.Calls.{Call, repair, Planned, planned, decided, Answered}
 use Rattle.volume.specs.declared.Found.the-variants.{At}
 use Rattle.volume.specs.declared.Answer.{Answer}
 use Rattle.crash.specs.Settled.{Settled, refused, done}
@@ -40,7 +40,7 @@ module _ (d s : ℕ) where
     pub not-refused : isDone (a′ .outcome) ≡ true
     pub accepted : Accepted d s l′
     pub others : (f : ℕ) → named d s l c ≢ At f → SameFile d s l l′ f
-    pub all-or-none : (f : ℕ) → named d s l c ≡ At f → SameFile d s (pick (ltb (planned d l s c .deciding) (a .made)) (whole d s l c) l) l′ f
+    pub all-or-none : (f : ℕ) → named d s l c ≡ At f → SameFile d s (pick (ltb 0 (decided (planned d l s c .deciding) (a .made))) (whole d s l c) l) l′ f
 
 called-sound : {d s : ℕ} {l m : List ℕ} → Sound d s l → Called d s l m → Sound d s m
 called-sound y begun = y
@@ -55,18 +55,12 @@ before-in : (P : Plan) → length (P .before) < length (stores P)
 unfolding stores
 before-in P = omega (arith, length-append (P .before) (P .deciding ∷ P .rest))
 
--- the deciding store lies below the limit exactly if it lies below the count made, unless nothing is stored
-decided : {π : Partition} {v : View} {f : ℕ} {E : View → Type 0} (x : Planned) → Settled π v f E x → (limit : ℕ) (Q : List ℕ → Type 0) (l : List ℕ)
-    → Q (pick (ltb (x .deciding) limit) (stored (x .list) l) l) → Q (pick (ltb (x .deciding) (length (take limit (x .list)))) (stored (x .list) l) l)
-unfolding stored
-decided _ (refused y) limit Q l q = go (ltb 0 limit) (ltb 0 (length (take limit []))) q
-  where
-    go : (t u : Bool) → Q (pick t l l) → Q (pick u l l)
-    go true true q = q
-    go true false q = q
-    go false true q = q
-    go false false q = q
-decided _ (done a P o) limit Q l q = subst (λ (t : Bool). Q (pick t (stored (stores P) l) l)) (cut (ltb n limit) refl (ltb (length (stores P)) limit) refl) q
+-- as many of the deciding stores are below the limit as below the count made
+decided-made : {π : Partition} {v : View} {f : ℕ} {E : View → Type 0} (x : Planned) → Settled π v f E x → (limit : ℕ)
+    → decided (x .deciding) limit ≡ decided (x .deciding) (length (take limit (x .list)))
+unfolding decided
+decided-made _ (refused y) limit = refl
+decided-made _ (done a P o) limit = ap (λ (t : Bool). pick t 1 0 + 0) (cut (ltb (length (stores P)) limit) refl)
   where
     n : ℕ
     n = length (P .before)
@@ -74,11 +68,11 @@ decided _ (done a P o) limit Q l q = subst (λ (t : Bool). Q (pick t (stored (st
     inner : n < length (stores P)
     inner = before-in P
 
-    cut : (t : Bool) → ltb n limit ≡ t → (u : Bool) → ltb (length (stores P)) limit ≡ u → ltb n limit ≡ ltb n (length (take limit (stores P)))
-    cut t i true j =
+    cut : (t : Bool) → ltb (length (stores P)) limit ≡ t → ltb n limit ≡ ltb n (length (take limit (stores P)))
+    cut true j =
         let k = ltb-true (length (stores P)) limit j in
         lt-ltb n limit (omega (arith, inner)) ∙ sym (ap (λ (xs : List Store). ltb n (length xs)) (take-all limit (stores P) (omega arith)) ∙ lt-ltb n (length (stores P)) inner)
-    cut t i false j = sym (ap (ltb n) (length-take-le limit (stores P) (ltb-false (length (stores P)) limit j)))
+    cut false j = sym (ap (ltb n) (length-take-le limit (stores P) (ltb-false (length (stores P)) limit j)))
 
 -- a repair at any point answers done, under any limit
 pub never-refused : (d s : ℕ) (l m : List ℕ) → Image l → Accepted d s l → Called d s l m → (c : Call) → Proper c
@@ -97,9 +91,8 @@ demand-3-in-calls d s l m b k h c p limit a m₁ x l′ r limit′ a′ l″ all
   not-refused = never-refused d s l m b k h c p limit a m₁ x l′ r limit′ a′ l″ x′;
   accepted = subst (Accepted d s) (sym end) (z .accepted);
   others = λ f q. subst (λ (e : List ℕ). SameFile d s m e f) (sym end) (z .others f q);
-  all-or-none = λ f q. subst (λ (e : List ℕ). SameFile d s (pick (ltb (planned d m s c .deciding) (a .made)) (whole d s m c) m) e f) (sym end)
-      (subst (λ (n : ℕ). SameFile d s (pick (ltb (planned d m s c .deciding) n) (whole d s m c) m) (whole d s l′ repair) f) (sym (x .made))
-      (decided (planned d m s c) (settled (y .held) (y .is) c p) limit (λ e. SameFile d s e (whole d s l′ repair) f) m (z .all-or-none f q)));
+  all-or-none = λ f q. subst (λ (e : List ℕ). SameFile d s (pick (ltb 0 (decided (planned d m s c .deciding) (a .made))) (whole d s m c) m) e f) (sym end)
+      (subst (λ (n : ℕ). SameFile d s (pick (ltb 0 n) (whole d s m c) m) (whole d s l′ repair) f) (made ∙ ap (decided (planned d m s c .deciding)) (sym (x .made))) (z .all-or-none f q));
 }
   where
     y : Sound d s m
@@ -110,3 +103,6 @@ demand-3-in-calls d s l m b k h c p limit a m₁ x l′ r limit′ a′ l″ all
 
     end : l″ ≡ whole d s l′ repair
     end = x′ .image ∙ ap (λ (xs : List Store). stored xs l′) (take-all limit′ (planned d l′ s repair .list) all)
+
+    made : decided (planned d m s c .deciding) limit ≡ decided (planned d m s c .deciding) (length (take limit (planned d m s c .list)))
+    made = decided-made (planned d m s c) (settled (y .held) (y .is) c p) limit

@@ -1,215 +1,147 @@
 -- Create: the first free block becomes an empty file, and nothing else changes.
-use mathlib.Core.Path.{_≡_, refl, sym, ap, ap₂, _∙_, subst}
-use mathlib.Core.Logic.{inr, _≢_}
-use mathlib.Core.List.{List, [], _∷_}
+use mathlib.Core.Path.{_≡_, refl, sym, ap, _∙_, subst}
+use mathlib.Core.Logic.{_⊎_, inl, inr, _≢_}
+use mathlib.Core.List.{[]}
 use mathlib.Core.Bool.{Bool, true, false, true≢false}
-use Prim.Native.Nat.{ℕ, suc, _+_, _-_, _*_, _/_, _%_, _≤_, _<_}
+use Prim.Native.Nat.{ℕ, zero, suc, _<_}
 use native.Mathlib.Omega.{arith}
 use lib.Dec.{eqb}
 use lib.ListN.{length}
-use borrow.Author.Tests.{eqb-true, eqb-false, le-ltb, eq-eqb}
-use Rattle.base.specs.Tests.{pick, every, occ}
-use Rattle.base.specs.Laws.{cons-same, both-left}
-use Rattle.drive.specs.Address.{pda, lda}
-use Rattle.image.specs.View.{upd-same, upd-other, View, Rec, after, upd, pair, put, put2}
-use Rattle.volume.specs.Words.{nextAt, previousAt}
-use Rattle.volume.specs.Files.{Partition, inside, candidate, len, ptrsFor, ptrs, indirect, nth, size, wellFormed, isFile, fileOf, owned, nextOf, prevOf, free, freeHead, sound}
-use Rattle.volume.specs.Owned.{own, member-owned, nth-fib, fib-in, of-wf}
-use Rattle.volume.specs.Agree.{Clean}
-use Rattle.volume.specs.Plans.{st, stores, freshFib, newFirst, pibLess, createPlan}
-use Rattle.frame.specs.Soft.{soft-links}
-use Rattle.frame.specs.Turn.{calm-soft, calm-pib, Turn, turn-free, turn-decided}
-use Rattle.frame.specs.Sound.{occ-here, occ-more, sound-clean, free-in, free-not, free-once, head-free, some-free, after₁}
-use Rattle.crash.specs.Cut.{Decides, Good}
-use Rattle.crash.specs.Links.{Links}
-use Rattle.crash.specs.Whole.{own-keep, links-others, pib-not, W-owned, keeps-sound, taken-free}
-use Rattle.crash.specs.Records.{word, fresh-nil, first-links}
-use Rattle.crash.specs.FreeBlocks.{off-pib, occ-one, first-free, first-in, starts-two, second-occ, first≢second}
+use borrow.Author.Tests.{eqb-true, eqb-false}
+use Rattle.image.specs.View.{upd-same, upd-other, View, Rec, after, upd}
+use Rattle.volume.specs.Keys.{home}
+use Rattle.volume.specs.Files.{Partition, inside, candidate, spot, wellFormed, fileOf, owned, free, freeHead, sound}
+use Rattle.volume.specs.Index.{spot-home, present-home, own, file-candidate, member-owned}
+use Rattle.volume.specs.Frame.{Clean}
+use Rattle.volume.specs.Plans.{st, asFiller, stores, freeAt, freshFib, newFirst, takenStores, createPlan}
+use Rattle.frame.specs.Reading.{put-off, put2-off}
+use Rattle.frame.specs.Turn.{Each, after-miss, calm-soft, calm-pib, Turn, turn-free, turn-decided}
+use Rattle.frame.specs.Decides.{Decides, Good}
+use Rattle.frame.specs.Sound.{sound-clean, some-free}
+use Rattle.frame.specs.FreeChain.{Links}
+use Rattle.frame.specs.Taking.{taken, differ}
+use Rattle.frame.specs.Drawn.{Taken, Drawn, left, drawn-free}
+use Rattle.crash.specs.FreeBlocks.{off-pib, pib-not, soft-links}
+use Rattle.crash.specs.Whole.{own-keep, links-others, W-owned, keeps-sound}
+use Rattle.crash.specs.Fresh.{fresh-cand, fresh-only, fresh-wf, fresh-links}
 
--- ---- a fresh FIB
+-- the new first free block: links and filler alone
+first-links : (d : ℕ) (v : View) (g w : ℕ) → w ≢ 3 → w ≢ 6 → w ≢ 7 → newFirst d v g w ≡ v g w
+unfolding newFirst
+first-links d v g w n3 n6 n7 = put2-off 6 0 _ w n6 n7 ∙ put-off 3 (asFiller g) (v g) w n3
 
-module _ (π : Partition) (v u : View) (h kind : ℕ) (q : u h ≡ freshFib π.drive v h kind) where
-  at : (w : ℕ) → u h w ≡ freshFib π.drive v h kind w
-  at w = ap (λ (r : Rec). r w) q
-
-  nil : (w : ℕ) → 60 ≤ w → w < 256 → u h w ≡ 0
-  nil w l m = at w ∙ fresh-nil π.drive v h kind w (omega arith) m
-
-  nil2 : (w : ℕ) → 60 ≤ w → w < 255 → pair u h w ≡ 0
-  nil2 w l m = ap₂ (λ (x y : ℕ). x + 65536 * y) (nil w l (omega arith)) (nil (w + 1) (omega arith) (omega arith))
-
-  pub fresh-len : len π u h ≡ 0
-  unfolding len freshFib put put2
-  fresh-len = ap (λ (x : ℕ). (x + 1) % 65536) (at 258)
-
-  pub fresh-ptrs : ptrs π u h ≡ 0
-  unfolding ptrs ptrsFor
-  fresh-ptrs = ap ptrsFor fresh-len
-
-  pub fresh-cand : inside π h ≡ true → candidate π u h ≡ true
-  unfolding candidate freshFib every put put2
-  fresh-cand n = ap every (cons-same n (cons-same (eq-eqb _ _ (ap₂ (λ (x y : ℕ). x + 65536 * y) (at 0) (at 1) ∙ word (pda π.drive h))) (cons-same {l = []} (eq-eqb _ _ (at 2)) refl)))
-
-  pub fresh-wf : wellFormed π u h ≡ true
-  unfolding freshFib put put2 indirect
-  fresh-wf = of-wf π u h (record {
-    short = omega (arith, fresh-len);
-    ptrsOk = λ i l. absurd (omega (arith, fresh-ptrs));
-    dataOk = λ i l. absurd (omega (arith, fresh-len));
-    directNil = λ r _ l. nil2 (60 + 2 * r) (omega arith) (omega arith);
-    indirectNil = λ i _ l. nil2 (188 + 2 * i) (omega arith) (omega arith);
-    doubleNil = nil2 252 (omega arith) (omega arith);
-    doubleNil′ = nil2 254 (omega arith) (omega arith);
-    inUse = at 257 ∙ ap₂ (λ (x y : ℕ). x + suc y) (sym fresh-ptrs) (sym fresh-len);
-    lastIs = adr 259 260 (ptrs π u h + len π u h) (at 259) (at 260) (omega (arith, fresh-len));
-    lowNumber = at 261 ∙ sym (ap (λ (x : ℕ). pick (eqb x 0) 65535 (65533 - x)) fresh-ptrs);
-    lowIs = adr 262 263 0 (at 262) (at 263) (omega (arith, fresh-ptrs));
-  })
-    where
-      adr : (w w′ i : ℕ) → u h w ≡ lda π.drive h % 65536 → u h w′ ≡ lda π.drive h / 65536 → ptrs π u h ≡ i → u h w + 65536 * u h w′ ≡ lda π.drive (nth π u h i)
-      adr w w′ i a b z = ap₂ (λ (x y : ℕ). x + 65536 * y) a b ∙ word (lda π.drive h) ∙ ap (lda π.drive) (sym (nth-fib π u h) ∙ ap (nth π u h) z)
-
-module _ (π : Partition) (v : View) (ok : sound π v ≡ true) (two : 2 ≤ length (free π v)) (kind : ℕ) where
+module _ (π : Partition) (v : View) (ok : sound π v ≡ true) (room : 1 < length (free π v)) (kind : ℕ) where
   abbrev a : ℕ
-  a = freeHead π v
+  a = freeAt π v 0
 
   -- the next free block
   abbrev n : ℕ
-  n = after₁ π v a
+  n = freeAt π v 1
 
   abbrev R : Rec
-  R = freshFib π.drive v a kind
+  R = freshFib (π .drive) v (freeAt π v 0) kind
 
   abbrev D : View
-  D = upd v a R
-
-  U : View
-  U = upd (upd D n (newFirst π.drive v n)) π.s (pibLess π.drive v π.s n 1)
+  D = upd v (freeAt π v 0) R
 
   c : Clean π v
   c = sound-clean π v ok
 
-  n-occ : 0 < occ n (free π v)
-  n-occ = second-occ π v ok two
+  a-in : inside π (freeAt π v 0) ≡ true
+  a-in = taken π v ok 2 room 0 (omega arith) .0
 
-  n≢a : n ≢ a
-  n≢a z = first≢second π v ok two (sym z)
+  a-free : owned π v (freeAt π v 0) ≡ false
+  a-free = taken π v ok 2 room 0 (omega arith) .1
 
-  pub create-turn : Turn π v D (freeHead π v)
+  n-in : inside π (freeAt π v 1) ≡ true
+  n-in = taken π v ok 2 room 1 (omega arith) .0
+
+  n-free : owned π v (freeAt π v 1) ≡ false
+  n-free = taken π v ok 2 room 1 (omega arith) .1
+
+  n≢a : freeAt π v 1 ≢ freeAt π v 0
+  n≢a z = differ π v ok 2 room 0 1 (omega arith) (omega arith) (sym z)
+
+  create-turn : Turn π v D (freeAt π v 0)
   unfolding after
-  create-turn = turn-decided π v c a [] a R tt (λ _. inr ((λ o. absurd (true≢false (sym o ∙ first-free π v ok))), λ n. absurd (n refl)))
+  create-turn = turn-decided π v c a [] a R tt (λ _. inr ((λ o. absurd (true≢false (sym o ∙ a-free))), λ n. absurd (n refl)))
 
-  pub create-form : wellFormed π D (freeHead π v) ≡ true
-  create-form = fresh-wf π v D a kind (upd-same v a R)
+  form : wellFormed π D (freeAt π v 0) ≡ true
+  form = fresh-wf π v D a kind (upd-same v a R)
 
-  pub create-only : (i : ℕ) → i < size π D (freeHead π v) → freeHead π v ≡ nth π D (freeHead π v) i
-  unfolding size
-  create-only i l = sym (nth-fib π D a) ∙ ap (nth π D a) (omega (arith, fresh-len π v D a kind (upd-same v a R), fresh-ptrs π v D a kind (upd-same v a R)))
+  cand : candidate π D (freeAt π v 0) ≡ true
+  cand = fresh-cand π v D a kind (upd-same v a R) a-in
 
   -- no other free block becomes owned
-  pub create-left : (b : ℕ) → b ≢ freeHead π v → owned π v b ≡ false → owned π D b ≡ false
-  create-left b n o = turn-free π v c D a create-turn (λ _. create-form) b o (λ _ i l z. n (sym z ∙ sym (create-only i l)))
+  kept-free : (b : ℕ) → b ≢ freeAt π v 0 → owned π v b ≡ false → owned π D b ≡ false
+  kept-free b n o =
+      turn-free π v c D a create-turn (λ _. form) b o
+      (λ _ k p z. n (sym z ∙ ap (spot π D a) (fresh-only π v D a kind (upd-same v a R) k p) ∙ spot-home π D a))
 
-  pub create-good : Good π v (createPlan π v kind) (freeHead π v)
-  unfolding createPlan after
-  create-good = record {
+  good : Decides π v [] (st (freeAt π v 0) R) (takenStores π v 1) (freeAt π v 0)
+  unfolding takenStores after
+  good = record {
     early = tt;
     turn = create-turn;
-    form = λ _. create-form;
-    left = some-free π D n (free-in π v ok n n-occ) (create-left n n≢a (free-not π v ok n n-occ));
-    late = (calm-soft π D (soft-links π D n (v n) (upd-other v a R n n≢a) (λ w n3 _ _ n6 n7. first-links π.drive v n w n3 n6 n7)), (calm-pib π D, tt));
+    form = λ _. form;
+    left = some-free π D n n-in (kept-free n n≢a n-free);
+    late = (calm-soft π D (soft-links π D n (v n) (upd-other v a R n n≢a) (λ w n3 _ _ n6 n7. first-links (π .drive) v n w n3 n6 n7)), (calm-pib π D, tt));
   }
 
-  n-in : inside π n ≡ true
-  n-in = free-in π v ok n n-occ
+  pub create-good : Good π v (createPlan π v kind) (freeHead π v)
+  unfolding createPlan freeAt
+  create-good = good
 
-  a-occ : 0 < occ (freeHead π v) (free π v)
-  a-occ = head-free π v ok
-
-  rest : List ℕ
-  rest = starts-two π v ok two .rest
-
-  is : free π v ≡ freeHead π v ∷ after₁ π v (freeHead π v) ∷ rest
-  unfolding rest
-  is = starts-two π v ok two .is
-
-  -- the blocks behind the new first one
-  behind : (b : ℕ) → 0 < occ b rest → (b ≢ freeHead π v) × ((b ≢ after₁ π v (freeHead π v)) × (b ≢ π.s))
-  behind b m =
-      let k : 0 < occ b (free π v) = omega (arith, ap (occ b) is, occ-more b a (n ∷ rest), occ-more b n rest) in
-      let one = free-once π v ok b k in (
-        (λ z. omega (arith, ap (occ b) is, occ-here a (n ∷ rest), ap (λ (x : ℕ). occ x (a ∷ n ∷ rest)) z, occ-more b n rest, ap (λ (x : ℕ). occ x (n ∷ rest)) z)),
-        ((λ z. omega (arith, ap (occ b) is, occ-more b a (n ∷ rest), occ-here n rest, ap (λ (x : ℕ). occ x (n ∷ rest)) z, ap (λ (x : ℕ). occ x rest) z)), off-pib π b (free-in π v ok b k)),
-      )
-
-  own-in : owned π D (freeHead π v) ≡ true
-  own-in = subst (λ (x : ℕ). owned π D x ≡ true) (nth-fib π D a) (member-owned π D a cD create-form (ptrs π D a) (fib-in π D a))
-    where
-      cD : candidate π D (freeHead π v) ≡ true
-      cD = fresh-cand π v D a kind (upd-same v a R) (first-in π v ok)
-
-  -- a file in v is not the first free block
-  not-a : (b : ℕ) → owned π v b ≡ true → fileOf π v b ≢ freeHead π v
-  unfolding isFile
+  -- the file that a block of v belongs to is not the first free block
+  not-a : (b : ℕ) → owned π v b ≡ true → fileOf π v b ≢ freeAt π v 0
   not-a b h z =
-      let k = subst (λ (x : ℕ). candidate π v x ≡ true) z (both-left _ _ (own π v b h .file)) in
-      true≢false (sym (subst (λ (x : ℕ). owned π v x ≡ true) (nth-fib π v a) (member-owned π v a k (c a k) (ptrs π v a) (fib-in π v a))) ∙ first-free π v ok)
+      let k = subst (λ (x : ℕ). candidate π v x ≡ true) z (file-candidate π v _ (own π v b h .file)) in
+      true≢false (sym (subst (λ (x : ℕ). owned π v x ≡ true) (spot-home π v a) (member-owned π v a k (c a k) home (present-home π v a))) ∙ a-free)
 
-  own-out : (b : ℕ) → b ≢ freeHead π v → owned π D b ≡ owned π v b
-  own-out b m = go (owned π v b) refl
+  links : (h : ℕ) → candidate π D h ≡ true → Links π D h
+  links h k = go (eqb h a) refl
     where
-      go : (t : Bool) → owned π v b ≡ t → owned π D b ≡ t
-      go true h = own-keep π v D c a create-turn b h (not-a b h)
-      go false h = create-left b m h
-
-  new-links : Links π D (freeHead π v)
-  unfolding nextOf prevOf size
-  new-links = record {
-    next = λ i l. ap (λ (x : ℕ). pair D x nextAt) (sym (create-only i l)) ∙ no-link 4 (omega arith) (omega arith) ∙ sym (ap (λ (t : Bool). pick t (pda π.drive (nth π D a (suc i))) 0) (le-ltb (suc i) (ptrs π D a + suc (len π D a)) (omega (arith, fp, fl))));
-    prev = λ i l. ap (λ (x : ℕ). pair D x previousAt) (sym (create-only i l)) ∙ no-link 6 (omega arith) (omega arith) ∙ sym (ap (λ (t : Bool). pick t 0 (pda π.drive (nth π D a (i - 1)))) (eq-eqb i 0 (omega (arith, fp, fl))));
-    clear = λ q i l m. absurd (omega (arith, fp));
-  }
-    where
-      no-link : (w : ℕ) → 4 ≤ w → w < 8 → pair D (freeHead π v) w ≡ 0
-      no-link w l m = ap (λ (y : Rec). y w + 65536 * y (w + 1)) (upd-same v a R) ∙ ap₂ (λ (x y : ℕ). x + 65536 * y) (fresh-nil π.drive v a kind w l (omega arith)) (fresh-nil π.drive v a kind (w + 1) (omega arith) (omega arith))
-
-      fl : len π D (freeHead π v) ≡ 0
-      fl = fresh-len π v D a kind (upd-same v a R)
-
-      fp : ptrs π D (freeHead π v) ≡ 0
-      fp = fresh-ptrs π v D a kind (upd-same v a R)
+      go : (t : Bool) → eqb h a ≡ t → Links π D h
+      go true q = subst (Links π D) (sym (eqb-true h a q)) (fresh-links π v D a kind (upd-same v a R))
+      go false q = links-others π v D c a create-turn (λ b o _. upd-other v a R b (λ z. true≢false (sym o ∙ ap (owned π v) z ∙ a-free))) ok h (eqb-false h a q) k
 
   -- ---- whole, it leaves a sound partition
-  module _ (low : π.s < π.e) (pos : 0 < π.s) where
-    pub create-sound : sound π (after (stores (createPlan π v kind)) v) ≡ true
-    unfolding createPlan stores after U newFirst pibLess put put2
-    create-sound = keeps-sound π low pos v ok [] (st a R) (st n (newFirst π.drive v n) ∷ st π.s (pibLess π.drive v π.s n 1) ∷ []) a good
-        (create-left n n≢a (free-not π v ok n n-occ), (pib-not π D, tt))
-        (λ h k. lk h k (eqb h a) refl)
-        (n ∷ rest)
-        (taken-free π v ok U (a ∷ []) n rest is
-        (ap (λ (y : Rec). y 6 + 65536 * y 7) U-n)
-        (ap (λ (y : Rec). y 4 + 65536 * y 5) U-n)
-        (λ b m. let k = behind b m in sym (upd-other (upd D n (newFirst π.drive v n)) π.s (pibLess π.drive v π.s n 1) b (k .1 .1) ∙ upd-other D n (newFirst π.drive v n) b (k .1 .0) ∙ upd-other v a R b (k .0)))
-        (upd-same (upd D n (newFirst π.drive v n)) π.s (pibLess π.drive v π.s n 1))
-        (λ b m. sym (wo b) ∙ subst (λ (x : ℕ). owned π D x ≡ true) (hit b m) own-in)
-        (λ b i z. sym (wo b) ∙ own-out b (λ q. miss b z q)))
+  module _ (low : π .s < π .e) (pos : 0 < π .s) where
+    abbrev W : View
+    W = after (takenStores π v 1) D
+
+    wo : (b : ℕ) → owned π D b ≡ owned π W b
+    unfolding after
+    wo = W-owned π low pos v ok [] (st (freeAt π v 0) R) (takenStores π v 1) (freeAt π v 0) good
+
+    other : (b : ℕ) → freeAt π v 0 ≢ b → freeAt π v 1 ≢ b → π .s ≢ b → W b ≡ v b
+    unfolding takenStores
+    other b x y z = after-miss (takenStores π v 1) D b (y, (z, tt)) ∙ upd-other v a R b (λ q. x (sym q))
+
+    drawn : Drawn π v ok 1 room W
+    unfolding takenStores after
+    drawn = record {
+      first = upd-other (upd D n (newFirst (π .drive) v n)) (π .s) _ n (off-pib π n n-in) ∙ upd-same D n (newFirst (π .drive) v n);
+      pib = upd-same (upd D n (newFirst (π .drive) v n)) (π .s) _;
+      kept = λ b i o m. other b (m 0 (omega arith)) (m 1 (omega arith)) (λ z. off-pib π b i (sym z));
+      old = λ b h. sym (wo b) ∙ own-keep π v D c a create-turn b h (not-a b h);
+      new = new;
+      back = λ b h. back b (wo b ∙ h) (eqb b a) refl (owned π v b) refl;
+    }
       where
-        good : Decides π v [] (st a R) (st n (newFirst π.drive v n) ∷ st π.s (pibLess π.drive v π.s n 1) ∷ []) a
-        good = create-good
+        new : (i : ℕ) → i < 1 → owned π W (freeAt π v i) ≡ true
+        new zero l = sym (wo a) ∙ subst (λ (x : ℕ). owned π D x ≡ true) (spot-home π D a) (member-owned π D a cand form home (present-home π D a))
+        new (suc i) l = absurd (omega arith)
 
-        wo : (b : ℕ) → owned π D b ≡ owned π U b
-        wo = W-owned π low pos v ok [] (st a R) (st n (newFirst π.drive v n) ∷ st π.s (pibLess π.drive v π.s n 1) ∷ []) a good
+        back : (b : ℕ) → owned π D b ≡ true → (t : Bool) → eqb b a ≡ t → (u : Bool) → owned π v b ≡ u → (owned π v b ≡ true) ⊎ Taken π v ok 1 room b
+        back b h true q u o = inr (record { i = 0; less = omega arith; is = eqb-true b a q })
+        back b h false q true o = inl o
+        back b h false q false o = absurd (true≢false (sym h ∙ kept-free b (eqb-false b a q) o))
 
-        U-n : U n ≡ newFirst π.drive v n
-        U-n = upd-other (upd D n (newFirst π.drive v n)) π.s (pibLess π.drive v π.s n 1) n (off-pib π n n-in) ∙ upd-same D n (newFirst π.drive v n)
+    idle : Each (λ b _. owned π D b ≡ false) (takenStores π v 1)
+    unfolding takenStores
+    idle = (kept-free n n≢a n-free, (pib-not π D, tt))
 
-        hit : (b : ℕ) → 0 < occ b (a ∷ []) → a ≡ b
-        hit b m = occ-one b a m
-
-        miss : (b : ℕ) → occ b (a ∷ []) ≡ 0 → b ≢ a
-        miss b z q = omega (arith, occ-here a [], ap (λ (x : ℕ). occ x (a ∷ [])) q)
-
-        lk : (h : ℕ) → candidate π D h ≡ true → (t : Bool) → eqb h a ≡ t → Links π D h
-        lk h k true q = subst (Links π D) (sym (eqb-true h a q)) new-links
-        lk h k false q = links-others π v D c a create-turn (λ b o _. sym (upd-other v a R b (λ z. true≢false (sym o ∙ ap (owned π v) z ∙ first-free π v ok)))) ok h (eqb-false h a q) k
+    pub create-sound : sound π (after (stores (createPlan π v kind)) v) ≡ true
+    unfolding createPlan stores after
+    create-sound = keeps-sound π low pos v ok [] (st (freeAt π v 0) R) (takenStores π v 1) (freeAt π v 0) good idle links (left π v ok 1 room) (drawn-free π v ok 1 room W drawn)

@@ -1,5 +1,5 @@
 -- A run of stores with a deciding one, cut anywhere, and then repairs that are cut too: what is left, the same for every call.
-use mathlib.Core.Path.{_≡_, refl, sym, ap, _∙_, subst, fun-ext}
+use mathlib.Core.Path.{_≡_, sym, ap, _∙_, subst, fun-ext}
 use mathlib.Core.Logic.{_≢_}
 use mathlib.Core.List.{List, [], _∷_, _++_}
 use mathlib.Core.Bool.{true}
@@ -7,27 +7,15 @@ use Prim.Native.Nat.{ℕ, suc, _-_, _≤_, _<_}
 use native.Mathlib.Omega.{arith}
 use lib.ListN.{take, length}
 use Rattle.image.specs.View.{View, Store, after, upd}
-use Rattle.volume.specs.Files.{Partition, unowned, candidate, wellFormed, files, sound}
-use Rattle.volume.specs.Agree.{Clean, Agree, alike, agree-clean, agree-unowned}
-use Rattle.volume.specs.Plans.{Plan, repairStores}
+use Rattle.volume.specs.Files.{Partition, unowned, sound}
+use Rattle.volume.specs.Frame.{Clean, Agree, formed, agree-clean, agree-unowned}
+use Rattle.volume.specs.Plans.{repairStores}
 use Rattle.frame.specs.Repair.{mid-agree}
 use Rattle.frame.specs.Restart.{Part, start, again, finish}
 use Rattle.frame.specs.Mended.{sound-is, mended-agree}
-use Rattle.frame.specs.Turn.{Each, each-take, after-append, cut-early, cut-late, Calm, calm-agree, Turn, turn-clean}
+use Rattle.frame.specs.Turn.{each-take, after-append, cut-early, cut-late, Calm, calm-agree, turn-clean}
+use Rattle.frame.specs.Decides.{Decides}
 use Rattle.crash.specs.SameFile.{SameFile, SameFiles, file-trans, file-sym, agree-same, turn-same}
-
--- ---- a run of stores with a deciding one x: those before it change no file, it changes f alone, the rest change no file
-
-pub record Decides (π : Partition) (v : View) (before : List Store) (x : Store) (rest : List Store) (f : ℕ) : Type 0 where
-  pub early : Each (Calm π v) before
-  pub turn : Turn π v (upd (after before v) (x .at) (x .rec)) f
-  pub form : candidate π (upd (after before v) (x .at) (x .rec)) f ≡ true → wellFormed π (upd (after before v) (x .at) (x .rec)) f ≡ true
-  pub left : unowned π (upd (after before v) (x .at) (x .rec)) ≢ []
-  pub late : Each (Calm π (upd (after before v) (x .at) (x .rec))) rest
-
--- the same of a plan
-abbrev pub Good : Partition → View → Plan → ℕ → Type 0
-Good π v p f = Decides π v (p .before) (p .deciding) (p .rest) f
 
 -- ---- repair, cut and begun again any number of times, then finished
 
@@ -54,8 +42,8 @@ module _ (π : Partition) where
 
     pub survives : (v : View) → Clean π v → unowned π v ≢ [] → {u : View} → Repairs v u → Survives v u
     survives v c n {u} r = record {
-      clean = agree-clean π v u c (alike π mid);
-      spare = λ z. n (agree-unowned π v u c (alike π mid) ∙ z);
+      clean = agree-clean π v u c (formed π mid);
+      spare = λ z. n (agree-unowned π v u c (formed π mid) ∙ z);
       sound = ap (sound π) whole ∙ sound-is π v c n g p;
       files = subst (SameFiles π v) (sym whole) (agree-same π v (mended v) c (mended-agree π v c));
     }
@@ -95,7 +83,7 @@ module _ (π : Partition) where
         early-agree k l = subst (λ (ys : List Store). Agree π v (after ys v)) (sym (cut-early k before (x ∷ rest) l)) (calm-agree π v c (take k before) (each-take (Calm π v) k before (y .early)))
 
         from : (a u : View) → Clean π a → unowned π a ≢ [] → (w : View) → Agree π a w → Repairs w u → Survives a u
-        from a u ca na w ag r = survives-as (agree-same π a w ca ag) (survives w (agree-clean π a w ca (alike π ag)) (λ z. na (agree-unowned π a w ca (alike π ag) ∙ z)) r)
+        from a u ca na w ag r = survives-as (agree-same π a w ca ag) (survives w (agree-clean π a w ca (formed π ag)) (λ z. na (agree-unowned π a w ca (formed π ag) ∙ z)) r)
 
         pub cut-before : (k : ℕ) → k ≤ length before → {u : View} → Repairs (after (take k stores) v) u → Survives v u
         cut-before k l {u} r = from v u c n _ (early-agree k l) r

@@ -1,5 +1,5 @@
 -- What a call that is done does to the file it names: what "as after the whole call" comes to.
-use mathlib.Core.Path.{_≡_, refl, sym, ap, _∙_}
+use mathlib.Core.Path.{_≡_, sym, ap, _∙_, subst}
 use mathlib.Core.Logic.{_≢_}
 use mathlib.Core.Bool.{Bool, true, false}
 use Prim.Native.Nat.{ℕ, suc, _+_, _-_, _≤_, _<_}
@@ -10,28 +10,25 @@ use borrow.Author.Tests.{lt-ltb, le-ltb, le-leb}
 use Rattle.base.specs.Tests.{pick, both}
 use Rattle.base.specs.Laws.{both-of}
 use Rattle.image.specs.View.{upd-same, upd-other, View, Rec, after, upd}
-use Rattle.image.specs.Saves.{withData, withText}
-use Rattle.volume.specs.Files.{Partition, candidate, len, ptrs, name, wellFormed, isFile, free, freeHead, sound}
-use Rattle.volume.specs.Frame.{Shape, kept-len, kept-name, kept-wellFormed}
-use Rattle.volume.specs.Owned.{nth-fib, nth-data, fib-in, data-in}
-use Rattle.volume.specs.Agree.{Clean}
-use Rattle.volume.specs.Plans.{Plan, stores, freshFib, createPlan, replacePlan, describePlan, destroyPlan, destroyed, repairPlan, appended, appendPlan}
+use Rattle.image.specs.Saves.{words, withData, withText}
+use Rattle.volume.specs.Words.{kindAt}
+use Rattle.volume.specs.Keys.{home}
+use Rattle.volume.specs.Files.{Partition, candidate, len, spot, present, name, wellFormed, isFile, free, freeHead, sound}
+use Rattle.volume.specs.Index.{spot-home, present-home}
+use Rattle.volume.specs.Frame.{SameHead, Shape, Clean, kept-len, kept-spot, kept-wellFormed}
+use Rattle.volume.specs.Plans.{Plan, stores, freeAt, freshFib, createPlan, describePlan, destroyPlan, destroyed, repairPlan}
+use Rattle.volume.specs.Writes.{over, replacePlan}
+use Rattle.volume.specs.Calls.{Call, create, write, describe, destroy, repair}
 use Rattle.frame.specs.Soft.{headed-is, headed-same}
 use Rattle.frame.specs.Sound.{sound-clean, spare-block}
-use Rattle.crash.specs.Cut.{Good}
-use Rattle.crash.specs.Records.{fresh-nil, fresh-kind}
-use Rattle.crash.specs.FreeBlocks.{first-in, nth-unique, data-rel}
-use Rattle.volume.specs.Words.{kindAt, relativeAt}
-use Rattle.image.specs.Saves.{words}
-use Rattle.volume.specs.Calls.{Call, create, write, describe, destroy, repair}
+use Rattle.frame.specs.Decides.{Good}
 use Rattle.frame.specs.Mended.{mended-agree}
-use Rattle.crash.specs.SameFile.{SameFile, SameFiles, agree-same}
+use Rattle.crash.specs.SameFile.{SameFile, SameFiles, agree-same, data-here}
 use Rattle.crash.specs.Cut.{decided-same}
-use Rattle.crash.specs.Create.{fresh-cand, fresh-len, create-form, create-good}
+use Rattle.crash.specs.FreeBlocks.{first-in, spot-unique, spot≢fib}
+use Rattle.crash.specs.Fresh.{fresh-nil, fresh-kind, fresh-cand, fresh-len, fresh-wf}
+use Rattle.crash.specs.Create.{create-good}
 use Rattle.crash.specs.OneBlock.{One, one-shape, describe-one, replace-one}
-use Rattle.crash.specs.AppendTakes.{Growing, M}
-use Rattle.crash.specs.AppendForm.{F, D, D-len, D-name, D-name-new, append-good}
-use Rattle.crash.specs.AppendSound.{D-file, D-here, D-bytes, D-text, D-kind}
 use Rattle.crash.specs.Destroy.{no, destroy-good, D as destroyedView}
 
 module _ (π : Partition) (v w : View) where
@@ -76,31 +73,38 @@ module _ (π : Partition) (low : π.s < π.e) (pos : 0 < π.s) (v : View) (ok : 
   same-as p f y = decided-same π low pos v c (spare-block π v ok) (p .before) (p .deciding) (p .rest) f y
 
   -- ---- create
-  pub created : (kind : ℕ) → 2 ≤ length (free π v) → Created π v (after (stores (createPlan π v kind)) v) (freeHead π v) kind
-  unfolding createPlan after isFile
-  created kind two = record {
+  pub created : (kind : ℕ) → 1 < length (free π v) → Created π v (after (stores (createPlan π v kind)) v) (freeHead π v) kind
+  unfolding createPlan freeAt after isFile
+  created kind room = record {
     file = sym (same .is) ∙ is;
     empty = sym (same .long is) ∙ fresh-len π v D₁ a kind (upd-same v a R₁);
-    kind = sym (same .fib is 256 (omega arith)) ∙ ap (λ (r : Rec). r 256) (upd-same v a R₁) ∙ fresh-kind π.drive v a kind;
-    text = λ x l m. sym (same .fib is x l) ∙ ap (λ (r : Rec). r x) (upd-same v a R₁) ∙ fresh-nil π.drive v a kind x (omega arith) (omega arith);
+    kind = sym (same .kind is) ∙ ap (λ (r : Rec). r 256) (upd-same v a R₁) ∙ fresh-kind (π .drive) v a kind;
+    text = λ x l m. sym (same .text is x l m) ∙ ap (λ (r : Rec). r x) (upd-same v a R₁) ∙ fresh-nil (π .drive) v a kind x (omega arith) (omega arith);
   }
     where
       a : ℕ
       a = freeHead π v
 
       R₁ : Rec
-      R₁ = freshFib π.drive v (freeHead π v) kind
+      R₁ = freshFib (π .drive) v (freeHead π v) kind
 
       D₁ : View
       D₁ = upd v (freeHead π v) R₁
 
       same : SameFile π D₁ (after (stores (createPlan π v kind)) v) (freeHead π v)
-      same = same-as (createPlan π v kind) a (create-good π v ok two kind) a
+      same = same-as (createPlan π v kind) a (create-good π v ok room kind) a
 
       is : isFile π D₁ (freeHead π v) ≡ true
-      is = both-of (fresh-cand π v D₁ a kind (upd-same v a R₁) (first-in π v ok)) (create-form π v ok two kind)
+      is = both-of (fresh-cand π v D₁ a kind (upd-same v a R₁) (first-in π v ok)) (fresh-wf π v D₁ a kind (upd-same v a R₁))
 
   module _ (f : ℕ) (cf : candidate π v f ≡ true) where
+    f-file : isFile π v f ≡ true
+    unfolding isFile
+    f-file = both-of cf (c f cf)
+
+    pub here-data : (i : ℕ) → i < len π v f → present π v f (292 + i) ≡ true
+    here-data i l = data-here π v f f-file i l
+
     -- ---- one block's content
     module _ (b : ℕ) (r : Rec) (o : One π v f b r) where
       shape : Shape π v (upd v b r) f
@@ -108,17 +112,21 @@ module _ (π : Partition) (low : π.s < π.e) (pos : 0 < π.s) (v : View) (ok : 
 
       one-file : isFile π (upd v b r) f ≡ true
       unfolding isFile
-      one-file = both-of (headed-is π (upd v b r) f ∙ sym (headed-same π f (shape .head)) ∙ sym (headed-is π v f) ∙ cf) (sym (kept-wellFormed π v (upd v b r) f shape) ∙ c f cf)
+      one-file = both-of (headed-is π (upd v b r) f ∙ sym (headed-same π f head) ∙ sym (headed-is π v f) ∙ cf) (sym (kept-wellFormed π v (upd v b r) f shape) ∙ c f cf)
+        where
+          head : SameHead (v f) (upd v b r f)
+          head = subst (λ (x : ℕ). SameHead (v x) (upd v b r x)) (spot-home π v f) (shape .heads home (present-home π v f))
 
       one-name : (i : ℕ) → i < len π v f → name π (upd v b r) f i ≡ name π v f i
-      one-name i l = sym (kept-name π v (upd v b r) f shape i l)
+      one-name i l = sym (kept-spot π v (upd v b r) f shape (292 + i) (here-data i l))
 
     pub described : (dat : Rec) → Described π v (after (stores (describePlan π v f dat)) v) f dat
     unfolding describePlan stores after both withText
     described dat = record {
       file = one-file f X o;
       long = sym (kept-len π v (upd v f X) f (shape f X o));
-      bytes = λ i l x m. ap (λ (y : ℕ). upd v f X y x) (one-name f X o i l) ∙ ap (λ (y : Rec). y x) (upd-other v f X (name π v f i) (name≢f i l));
+      bytes = λ i l x m. ap (λ (y : ℕ). upd v f X y x) (one-name f X o i l)
+          ∙ ap (λ (y : Rec). y x) (upd-other v f X (name π v f i) (spot≢fib π v ok f cf (292 + i) (here-data i l) (λ z. omega arith)));
       kind = ap (λ (y : Rec). y 256) (upd-same v f X);
       text = λ x l m. ap (λ (y : Rec). y x) (upd-same v f X) ∙ simp (le-leb 8 x l, lt-ltb x 60 m);
     }
@@ -129,18 +137,16 @@ module _ (π : Partition) (low : π.s < π.e) (pos : 0 < π.s) (v : View) (ok : 
         o : One π v f f (withText dat (v f))
         o = describe-one π v ok f cf dat
 
-        name≢f : (i : ℕ) → i < len π v f → name π v f i ≢ f
-        name≢f i l z = omega (arith, nth-unique π v ok f cf (ptrs π v f + suc i) (ptrs π v f) (data-in π v f i l) (fib-in π v f) (nth-data π v f i ∙ z ∙ sym (nth-fib π v f)))
-
     pub replaced : (r : ℕ) (dat : Rec) → r < len π v f → Written π v (after (stores (replacePlan π v f r dat)) v) f r dat
-    unfolding replacePlan stores after withData
+    unfolding replacePlan over stores after withData
     replaced r dat lr = record {
       file = one-file b X o;
       long = sym (kept-len π v (upd v b X) f (shape b X o)) ∙ sym (ap (λ (t : Bool). pick t (len π v f) (suc r)) (lt-ltb r (len π v f) lr));
       here = λ x l. ap (λ (y : ℕ). upd v b X y x) (one-name b X o r lr) ∙ ap (λ (y : Rec). y x) (upd-same v b X) ∙ simp (le-ltb x 8 l);
-      rest = λ i l n x m. ap (λ (y : ℕ). upd v b X y x) (one-name b X o i l) ∙ ap (λ (y : Rec). y x) (upd-other v b X (name π v f i) (λ z. n (sym (data-rel π v ok f cf i l) ∙ ap (λ (y : ℕ). v y relativeAt) z ∙ data-rel π v ok f cf r lr)));
+      rest = λ i l n x m. ap (λ (y : ℕ). upd v b X y x) (one-name b X o i l)
+          ∙ ap (λ (y : Rec). y x) (upd-other v b X (name π v f i) (λ z. n (let q = spot-unique π v ok f cf (292 + i) (292 + r) (here-data i l) (here-data r lr) z in omega arith)));
       kind = sym (o .fib 256 (omega arith));
-      text = λ x l m. ap (λ (y : Rec). y x) (upd-other v b X f f≢b);
+      text = λ x l m. ap (λ (y : Rec). y x) (upd-other v b X f (λ z. spot≢fib π v ok f cf (292 + r) (here-data r lr) (λ y. omega arith) (sym z)));
     }
       where
         b : ℕ
@@ -150,31 +156,7 @@ module _ (π : Partition) (low : π.s < π.e) (pos : 0 < π.s) (v : View) (ok : 
         X = withData dat (v (name π v f r))
 
         o : One π v f (name π v f r) (withData dat (v (name π v f r)))
-        o = replace-one π v ok f cf r dat lr
-
-        f≢b : f ≢ name π v f r
-        f≢b z = omega (arith, nth-unique π v ok f cf (ptrs π v f + suc r) (ptrs π v f) (data-in π v f r lr) (fib-in π v f) (nth-data π v f r ∙ sym z ∙ sym (nth-fib π v f)))
-
-    -- ---- append
-    pub grown : {dat : Rec} (G : Growing π v f dat) → Written π v (after (stores (appendPlan π v f dat)) v) f (len π v f) dat
-    unfolding appendPlan appended D M F
-    grown {dat} G = record {
-      file = sym (same .is) ∙ is;
-      long = sym (same .long is) ∙ dl ∙ sym (ap (λ (t : Bool). pick t (len π v f) (suc (len π v f))) (le-ltb (len π v f) (len π v f) (omega arith)));
-      here = λ x l. sym (same .bytes is (len π v f) (omega (arith, dl)) x l) ∙ ap (λ (b : ℕ). D G b x) (D-name-new G) ∙ D-here G x l;
-      rest = λ i l _ x m. sym (same .bytes is i (omega (arith, dl)) x m) ∙ ap (λ (b : ℕ). D G b x) (D-name G i l) ∙ D-bytes G i l x m;
-      kind = sym (same .fib is 256 (omega arith)) ∙ D-kind G;
-      text = λ x l m. sym (same .fib is x l) ∙ D-text G x l m;
-    }
-      where
-        dl : len π (D G) f ≡ suc (len π v f)
-        dl = D-len G
-
-        is : isFile π (D G) f ≡ true
-        is = D-file G
-
-        same : SameFile π (D G) (after (stores (appendPlan π v f dat)) v) f
-        same = same-as (appendPlan π v f dat) f (append-good G) f
+        o = replace-one π v ok f cf (292 + r) (omega arith) (here-data r lr) dat
 
     -- ---- destroy
     pub removed : isFile π (after (stores (destroyPlan π v f)) v) f ≡ false

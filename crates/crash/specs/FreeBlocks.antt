@@ -1,60 +1,53 @@
--- The blocks at the head of the free chain of a sound partition, and what sets them apart from the PIB and from every file.
-use mathlib.Core.Path.{_≡_, refl, sym, ap, _∙_, subst}
+-- The free blocks of a sound partition, and what sets them apart from the PIB and from every file; a file's blocks, each another.
+use mathlib.Core.Path.{_≡_, refl, sym, ap, _∙_}
 use mathlib.Core.Logic.{_≢_}
-use mathlib.Core.List.{[], _∷_}
 use mathlib.Core.Bool.{Bool, true, false, true≢false}
-use Prim.Native.Nat.{ℕ, _+_, _-_, _≤_, _<_}
+use Prim.Native.Nat.{ℕ, _<_}
 use native.Mathlib.Omega.{arith}
-use lib.Dec.{eqb}
-use lib.ListN.{length}
-use borrow.Author.Tests.{ltb-true, eqb-true}
-use Rattle.base.specs.Tests.{pick, occ}
+use borrow.Author.Tests.{ltb-true}
+use Rattle.base.specs.Tests.{occ}
 use Rattle.base.specs.Laws.{both-left}
 use Rattle.drive.specs.Address.{pdaBlock}
 use Rattle.drive.specs.Laws.{pda-back}
-use Rattle.image.specs.View.{View}
-use Rattle.volume.specs.Words.{relativeAt}
-use Rattle.volume.specs.Files.{Partition, inside, candidate, len, ptrs, indirect, ptr, entry, name, nth, size, wellFormed, place, fileOf, owned, free, freeHead, sound}
-use Rattle.volume.specs.Owned.{member-owned, place-back, nth-fib, fib-in, wf-of, names-rel}
-use Rattle.frame.specs.Soft.{cand-serial}
-use Rattle.frame.specs.Sound.{Starts, occ-here, occ-more, sound-clean, free-in, free-not, free-once, free-starts, head-free, after₁}
+use Rattle.image.specs.View.{View, Rec}
+use Rattle.volume.specs.Keys.{home}
+use Rattle.volume.specs.Files.{Partition, inside, candidate, spot, present, wellFormed, fileOf, key, owned, free, freeHead, sound}
+use Rattle.volume.specs.Index.{spot-home, present-home, member-owned, key-back, owned-not-pib}
+use Rattle.frame.specs.Soft.{Soft, cand-serial}
+use Rattle.frame.specs.Sound.{sound-clean, free-in, free-not, head-free}
 
--- a block of the partition is not the PIB
-pub off-pib : (π : Partition) (b : ℕ) → inside π b ≡ true → b ≢ π.s
+-- a block of the partition is not the PIB, and the PIB is owned by no file
+pub off-pib : (π : Partition) (b : ℕ) → inside π b ≡ true → b ≢ π .s
 unfolding inside
-off-pib π b i z = omega (arith, ltb-true π.s b (both-left _ _ i))
+off-pib π b i z = omega (arith, ltb-true (π .s) b (both-left _ _ i))
 
-pub occ-one : (b a : ℕ) → 0 < occ b (a ∷ []) → a ≡ b
-unfolding occ
-occ-one b a m = go (eqb b a) refl m
+pub pib-not : (π : Partition) (u : View) → owned π u (π .s) ≡ false
+pib-not π u = go (owned π u (π .s)) refl
   where
-    go : (t : Bool) → eqb b a ≡ t → 0 < pick t 1 0 + 0 → a ≡ b
-    go true q k = sym (eqb-true b a q)
-    go false q k = absurd (omega arith)
+    go : (t : Bool) → owned π u (π .s) ≡ t → t ≡ false
+    go true h = absurd (owned-not-pib π u (π .s) h refl)
+    go false h = refl
+
+-- a record that keeps all but filler and links is softly changed
+pub soft-links : (π : Partition) (v : View) (b : ℕ) {r : Rec} (r₀ : Rec) → v b ≡ r₀ → ((w : ℕ) → w ≢ 3 → w ≢ 4 → w ≢ 5 → w ≢ 6 → w ≢ 7 → r w ≡ r₀ w) → Soft π v b r
+soft-links π v b {r} r₀ q h = record {
+  head = record { low = low 0 (omega arith); high = low 1 (omega arith); rel = low 2 (omega arith) };
+  words = λ w l _. same w (λ z. omega arith) (λ z. omega arith) (λ z. omega arith) (λ z. omega arith) (λ z. omega arith);
+}
+  where
+    same : (w : ℕ) → w ≢ 3 → w ≢ 4 → w ≢ 5 → w ≢ 6 → w ≢ 7 → v b w ≡ r w
+    same w n3 n4 n5 n6 n7 = ap (λ (x : Rec). x w) q ∙ sym (h w n3 n4 n5 n6 n7)
+
+    low : (w : ℕ) → w < 3 → v b w ≡ r w
+    low w l = same w (λ z. omega arith) (λ z. omega arith) (λ z. omega arith) (λ z. omega arith) (λ z. omega arith)
 
 module _ (π : Partition) (v : View) (ok : sound π v ≡ true) where
-  abbrev a : ℕ
-  a = freeHead π v
-
+  -- the first free block
   pub first-free : owned π v (freeHead π v) ≡ false
-  first-free = free-not π v ok a (head-free π v ok)
+  first-free = free-not π v ok (freeHead π v) (head-free π v ok)
 
   pub first-in : inside π (freeHead π v) ≡ true
-  first-in = free-in π v ok a (head-free π v ok)
-
-  -- the second
-  module _ (two : 2 ≤ length (free π v)) where
-    abbrev g : ℕ
-    g = after₁ π v a
-
-    pub starts-two : Starts (freeHead π v ∷ after₁ π v (freeHead π v) ∷ []) (free π v)
-    starts-two = free-starts π v ok 2 two
-
-    pub second-occ : 0 < occ (after₁ π v (freeHead π v)) (free π v)
-    second-occ = omega (arith, ap (occ g) (starts-two .is), occ-more g a (g ∷ starts-two .rest), occ-here g (starts-two .rest))
-
-    pub first≢second : freeHead π v ≢ after₁ π v (freeHead π v)
-    first≢second z = omega (arith, free-once π v ok a (head-free π v ok), ap (occ a) (starts-two .is), occ-here a (g ∷ starts-two .rest), occ-here g (starts-two .rest), ap (λ (x : ℕ). occ x (g ∷ starts-two .rest)) z)
+  first-in = free-in π v ok (freeHead π v) (head-free π v ok)
 
   -- a file and its blocks
   module _ (f : ℕ) (cf : candidate π v f ≡ true) where
@@ -62,24 +55,18 @@ module _ (π : Partition) (v : View) (ok : sound π v ≡ true) where
     wf = sound-clean π v ok f cf
 
     pub own-file : fileOf π v f ≡ f
-    own-file = ap (pdaBlock π.drive) (cand-serial π v f cf) ∙ pda-back π.drive f
+    own-file = ap (pdaBlock (π .drive)) (cand-serial π v f cf) ∙ pda-back (π .drive) f
 
     -- a free block is none of them
-    pub free≢nth : (b i : ℕ) → 0 < occ b (free π v) → i < size π v f → b ≢ nth π v f i
-    free≢nth b i m l z = true≢false (sym (member-owned π v f cf wf i l) ∙ ap (owned π v) (sym z) ∙ free-not π v ok b m)
+    pub free≢spot : (b k : ℕ) → 0 < occ b (free π v) → present π v f k ≡ true → b ≢ spot π v f k
+    free≢spot b k m p z = true≢false (sym (member-owned π v f cf wf k p) ∙ ap (owned π v) (sym z) ∙ free-not π v ok b m)
 
     pub free≢fib : (b : ℕ) → 0 < occ b (free π v) → b ≢ f
-    free≢fib b m z = free≢nth b (ptrs π v f) m (fib-in π v f) (z ∙ sym (nth-fib π v f))
+    free≢fib b m z = free≢spot b home m (present-home π v f) (z ∙ sym (spot-home π v f))
 
-    -- two places, two blocks
-    pub nth-unique : (i j : ℕ) → i < size π v f → j < size π v f → nth π v f i ≡ nth π v f j → i ≡ j
-    nth-unique i j l m z = sym (place-back π v f cf wf i l) ∙ ap (place π v) z ∙ place-back π v f cf wf j m
+    -- two keys, two blocks
+    pub spot-unique : (j k : ℕ) → present π v f j ≡ true → present π v f k ≡ true → spot π v f j ≡ spot π v f k → j ≡ k
+    spot-unique j k p q z = sym (key-back π v f cf wf j p) ∙ ap (key π v) z ∙ key-back π v f cf wf k q
 
-    -- a data block has its own number; a pointer block too
-    pub data-rel : (r : ℕ) → r < len π v f → v (name π v f r) relativeAt ≡ r
-    unfolding name
-    data-rel r l = names-rel π v f (entry π v f r) r (wf-of π v f wf .dataOk r l)
-
-    pub ptr-rel : (q : ℕ) → q < ptrs π v f → v (ptr π v f q) relativeAt ≡ 65532 - q
-    unfolding ptr
-    ptr-rel q l = names-rel π v f (indirect π v f q) (65532 - q) (wf-of π v f wf .ptrsOk q l)
+    pub spot≢fib : (k : ℕ) → present π v f k ≡ true → k ≢ home → spot π v f k ≢ f
+    spot≢fib k p n z = n (spot-unique k home p (present-home π v f) (z ∙ sym (spot-home π v f)))

@@ -4,18 +4,16 @@ use mathlib.Core.List.{List, [], _∷_, _++_}
 use mathlib.Core.Bool.{Bool, true, false}
 use Prim.Native.Nat.{ℕ, zero, suc, _+_, _-_, _*_, _/_, _≤_}
 use native.Mathlib.Omega.{arith}
-use lib.Dec.{leb, ltb, eqb}
+use lib.Dec.{leb, ltb}
 use lib.ListN.{take, drop, length}
 use Rattle.base.specs.Tests.{pick, every}
-use Rattle.drive.specs.Address.{lda, ldaBlock}
+use Rattle.drive.specs.Address.{ldaBlock}
 use Rattle.image.specs.View.{View, Rec, Store, after, pair}
 use Rattle.image.specs.Image.{view, Bytes}
-use Rattle.image.specs.Stores.{Fits, Whole, stored, over, bytesOf, view-stored, stored-length}
-use Rattle.volume.specs.Files.{Partition, partitionOf, within}
+use Rattle.image.specs.Stores.{Fits, Whole, stored, over, bytesFrom, bytesOf, view-stored, stored-length}
+use Rattle.volume.specs.Files.{Partition, partitionOf, isLda}
 use Rattle.frame.specs.Turn.{Each, each-map, after-each}
-use Rattle.crash.specs.Cut.{Good}
 use Rattle.base.specs.declared.Refusal.the-variants.{BadImage, BadPartition}
-use Rattle.image.specs.Stores.{bytesFrom}
 use Rattle.volume.specs.Words.{partitionEndAt, partitionStartAt}
 use Rattle.volume.specs.Answers.{imageGood, partGood, endOf, partition}
 use Rattle.volume.specs.Reads.{Lies, lies}
@@ -66,7 +64,7 @@ same-partition d s l l′ n x y = ap₂ (λ (m a : ℕ). F m a (pair (view l) s 
     F : ℕ → ℕ → ℕ → Part
     F m a b =
         pick (imageGood d m)
-        (pick (every (leb 1 s ∷ ltb s (m / 528) ∷ eqb a (lda d s) ∷ eqb b (lda d (ldaBlock d b)) ∷ ltb s (ldaBlock d b) ∷ ltb (ldaBlock d b) (m / 528) ∷ leb (ldaBlock d b - s + 1) 32767 ∷ []))
+        (pick (every (leb 1 s ∷ ltb s (m / 528) ∷ isLda d a s ∷ isLda d b (ldaBlock d b) ∷ ltb s (ldaBlock d b) ∷ ltb (ldaBlock d b) (m / 528) ∷ leb (ldaBlock d b - s + 1) 32767 ∷ []))
         (part.Good (ldaBlock d b)) (part.Refused BadPartition))
         (part.Refused BadImage)
 

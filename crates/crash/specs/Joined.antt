@@ -1,94 +1,69 @@
--- A list of blocks put behind the free chain: what a table of blocks holds, and how it is linked to what stands before it.
-use mathlib.Core.Path.{_≡_, refl, sym, ap, ap₂, _∙_, subst}
+-- Chained lists of blocks: with the same links, with another block before the first, and two of them joined.
+use mathlib.Core.Path.{_≡_, refl, sym, ap, _∙_, subst}
 use mathlib.Core.Logic.{_≢_}
 use mathlib.Core.List.{List, [], _∷_, _++_}
-use mathlib.Core.Bool.{Bool, true, false}
-use Prim.Native.Nat.{ℕ, zero, suc, _+_, _*_, _≤_, _<_}
+use mathlib.Core.Bool.{true}
+use Prim.Native.Nat.{ℕ, _≤_, _<_}
 use native.Mathlib.Omega.{arith}
-use lib.Dec.{ltb, eqb}
+use lib.Dec.{eqb}
 use lib.ListN.{length}
-use borrow.Author.Tests.{eqb-true, eqb-false, lt-ltb, le-ltb, eq-eqb, ne-eqb}
-use Rattle.base.specs.Tests.{pick, tabFrom, headOf, lastOf, occ}
+use borrow.Author.Tests.{eq-eqb}
+use Rattle.base.specs.Tests.{headOf, lastOf, occ}
 use Rattle.base.specs.Laws.{both-left, both-right, both-of}
-use Rattle.image.specs.View.{View, Rec, pair}
+use Rattle.image.specs.View.{View, pair}
 use Rattle.volume.specs.Words.{nextAt, previousAt}
-use Rattle.volume.specs.Files.{Partition, inside, orNil, chained, within}
+use Rattle.volume.specs.Files.{Partition, orNil, chained, within}
 use Rattle.frame.specs.Sound.{last-occ, occ-here, occ-more}
-use Rattle.crash.specs.Whole.{last-append}
 
-pub within-join : (π : Partition) (l m : List ℕ) → within π l ≡ true → within π m ≡ true → within π (l ++ m) ≡ true
+pub within-both : (π : Partition) (l m : List ℕ) → within π l ≡ true → within π m ≡ true → within π (l ++ m) ≡ true
 unfolding within
-within-join π [] m h k = k
-within-join π (x ∷ l) m h k = both-of (both-left _ _ h) (within-join π l m (both-right _ _ h) k)
+within-both π [] m h k = k
+within-both π (x ∷ l) m h k = both-of (both-left _ _ h) (within-both π l m (both-right _ _ h) k)
 
-pub within-tab : (π : Partition) (i k : ℕ) (F : ℕ → ℕ) → ((j : ℕ) → j < i + k → inside π (F j) ≡ true) → within π (tabFrom i k F) ≡ true
-unfolding within tabFrom
-within-tab π i zero F h = refl
-within-tab π i (suc k) F h = both-of (h i (omega arith)) (within-tab π (suc i) k F (λ j l. h j (omega arith)))
-
-pub length-tab : (i k : ℕ) (F : ℕ → ℕ) → length (tabFrom i k F) ≡ k
-unfolding tabFrom
-length-tab i zero F = refl
-length-tab i (suc k) F = omega (arith, length-tab (suc i) k F)
-
-pub last-tab : (x i k : ℕ) (F : ℕ → ℕ) → lastOf x (tabFrom i (suc k) F) ≡ F (i + k)
-unfolding tabFrom lastOf
-last-tab x i zero F = ap F (let z : i ≡ i + 0 = omega arith in z)
-last-tab x i (suc k) F = last-tab (F i) (suc i) k F ∙ ap F (let z : suc i + k ≡ i + suc k = omega arith in z)
-
-pub head-append : (l m : List ℕ) → 0 < length l → headOf 0 l ≡ headOf 0 (l ++ m)
+pub head-both : (l m : List ℕ) → 0 < length l → headOf 0 (l ++ m) ≡ headOf 0 l
 unfolding headOf
-head-append [] m h = absurd (omega arith)
-head-append (x ∷ l) m h = refl
+head-both [] m h = absurd (omega arith)
+head-both (x ∷ l) m h = refl
 
-pub last-join : (x : ℕ) (l : List ℕ) (k : ℕ) (F : ℕ → ℕ) → lastOf x (l ++ tabFrom 0 (suc k) F) ≡ F k
-unfolding tabFrom
-last-join x l k F = last-append x x l (F 0) (tabFrom 1 k F) ∙ last-tab x 0 k F ∙ ap F (let z : 0 + k ≡ k = omega arith in z)
-
-pub occ-none : (b i k : ℕ) (F : ℕ → ℕ) → ((j : ℕ) → i ≤ j → j < i + k → F j ≢ b) → occ b (tabFrom i k F) ≡ 0
-unfolding tabFrom occ
-occ-none b i zero F h = refl
-occ-none b i (suc k) F h = ap₂ (λ (t : Bool) (n : ℕ). pick t 1 0 + n) (ne-eqb b (F i) (λ z. h i (omega arith) (omega arith) (sym z))) (occ-none b (suc i) k F (λ j l m. h j (omega arith) (omega arith)))
-
--- F is b at j alone
-pub occ-only : (b i k : ℕ) (F : ℕ → ℕ) (j : ℕ) → i ≤ j → j < i + k → F j ≡ b → ((n : ℕ) → n < i + k → F n ≡ b → n ≡ j) → occ b (tabFrom i k F) ≡ 1
-unfolding tabFrom occ
-occ-only b i zero F j l m h u = absurd (omega arith)
-occ-only b i (suc k) F j l m h u = go (eqb i j) refl (λ n. occ-only b (suc i) k F j n (omega arith) h (λ x y. u x (omega arith)))
-  where
-    go : (t : Bool) → eqb i j ≡ t → (suc i ≤ j → occ b (tabFrom (suc i) k F) ≡ 1) → pick (eqb b (F i)) 1 0 + occ b (tabFrom (suc i) k F) ≡ 1
-    go true q ih =
-        let z = eqb-true i j q in
-        ap₂ (λ (t : Bool) (n : ℕ). pick t 1 0 + n) (eq-eqb b (F i) (sym (ap F z ∙ h))) (occ-none b (suc i) k F (λ n x y w. omega (arith, u n (omega arith) w)))
-    go false q ih =
-        let z = eqb-false i j q in
-        ap₂ (λ (t : Bool) (n : ℕ). pick t 1 0 + n) (ne-eqb b (F i) (λ w. z (u i (omega arith) (sym w)))) (ih (omega arith))
+pub last-both : (x : ℕ) (l m : List ℕ) → lastOf x (l ++ m) ≡ lastOf (lastOf x l) m
+unfolding lastOf
+last-both x [] m = refl
+last-both x (y ∷ l) m = last-both y l m
 
 module _ (π : Partition) (v W : View) where
-  -- the chain l, whose last block now points on to m
-  pub chained-join : (x tl : ℕ) (l m : List ℕ) → 0 < length l → lastOf x l ≡ tl → chained π v x l ≡ true → ((b : ℕ) → 0 < occ b l → b ≢ tl → v b ≡ W b) → ((b : ℕ) → occ b l ≤ 1)
-      → pair v tl previousAt ≡ pair W tl previousAt → pair W tl nextAt ≡ orNil π (headOf 0 m) → chained π W tl m ≡ true → chained π W x (l ++ m) ≡ true
-  unfolding chained lastOf headOf
-  chained-join x tl [] m p q h k o a b c = absurd (omega arith)
-  chained-join x tl (y ∷ []) m p q h k o a b c =
-      both-of (eq-eqb _ _ (ap (λ (z : ℕ). pair W z previousAt) q ∙ sym a ∙ ap (λ (z : ℕ). pair v z previousAt) (sym q) ∙ eqb-true _ _ (both-left _ _ h)))
-      (both-of (eq-eqb _ _ (ap (λ (z : ℕ). pair W z nextAt) q ∙ b)) (subst (λ (z : ℕ). chained π W z m ≡ true) (sym q) c))
-  chained-join x tl (y ∷ z ∷ l) m p q h k o a b c =
-      let ne : y ≢ tl = λ w. omega (arith, o tl, last-occ y (z ∷ l) (omega arith), ap (λ (u : ℕ). occ u (z ∷ l)) q, occ-here tl (z ∷ l), ap (λ (u : ℕ). occ tl (u ∷ z ∷ l)) w) in
-      let sm = k y (omega (arith, occ-here y (z ∷ l))) ne in
-      both-of (eq-eqb _ _ (sym (ap (λ (r : Rec). r 6 + 65536 * r 7) sm) ∙ eqb-true _ _ (both-left _ _ h)))
-      (both-of (eq-eqb _ _ (sym (ap (λ (r : Rec). r 4 + 65536 * r 5) sm) ∙ eqb-true _ _ (both-left _ _ (both-right _ _ h))))
-      (chained-join y tl (z ∷ l) m (omega arith) q (both-right _ _ (both-right _ _ h)) (λ u w. k u (omega (arith, occ-more u y (z ∷ l)))) (λ u. omega (arith, o u, occ-more u y (z ∷ l))) a b c))
+  -- the same links, the same chain
+  pub chained-links : (x : ℕ) (l : List ℕ) → ((b : ℕ) → 0 < occ b l → (pair W b nextAt ≡ pair v b nextAt) × (pair W b previousAt ≡ pair v b previousAt)) → chained π v x l ≡ true → chained π W x l ≡ true
+  unfolding chained
+  chained-links x [] h k = refl
+  chained-links x (y ∷ l) h k =
+      let e = h y (omega (arith, occ-here y l)) in
+      both-of (ap (λ (z : ℕ). eqb z (orNil π x)) (e .1) ∙ both-left _ _ k)
+      (both-of (ap (λ (z : ℕ). eqb z (orNil π (headOf 0 l))) (e .0) ∙ both-left _ _ (both-right _ _ k))
+      (chained-links y l (λ b m. h b (omega (arith, m, occ-more b y l))) (both-right _ _ (both-right _ _ k))))
 
-  -- a table of blocks linked in its order
-  pub chained-tab : (F B : ℕ → ℕ) (n : ℕ) → ((j : ℕ) → j < n → pair W (F j) previousAt ≡ orNil π (B j)) → ((j : ℕ) → B (suc j) ≡ F j)
-      → ((j : ℕ) → j < n → pair W (F j) nextAt ≡ orNil π (pick (ltb (suc j) n) (F (suc j)) 0)) → (k i x : ℕ) → i + k ≡ n → B i ≡ x → chained π W x (tabFrom i k F) ≡ true
-  unfolding chained tabFrom headOf
-  chained-tab F B n p q r zero i x z w = refl
-  chained-tab F B n p q r (suc k) i x z w =
-      both-of (eq-eqb _ _ (p i (omega arith) ∙ ap (orNil π) w))
-      (both-of (eq-eqb _ _ (r i (omega arith) ∙ ap (orNil π) (next k z))) (chained-tab F B n p q r k (suc i) (F i) (omega arith) (q i)))
-    where
-      next : (k : ℕ) → i + suc k ≡ n → pick (ltb (suc i) n) (F (suc i)) 0 ≡ headOf 0 (tabFrom (suc i) k F)
-      next zero z = ap (λ (t : Bool). pick t (F (suc i)) 0) (le-ltb (suc i) n (omega arith))
-      next (suc k) z = ap (λ (t : Bool). pick t (F (suc i)) 0) (lt-ltb (suc i) n (omega arith))
+  -- a chain whose first block now has x before it
+  pub chained-first : (x : ℕ) (l : List ℕ) → ((b : ℕ) → occ b l ≤ 1) → ((b : ℕ) → 0 < occ b l → pair W b nextAt ≡ pair v b nextAt)
+      → ((b : ℕ) → 0 < occ b l → b ≢ headOf 0 l → pair W b previousAt ≡ pair v b previousAt) → pair W (headOf 0 l) previousAt ≡ orNil π x → chained π v 0 l ≡ true → chained π W x l ≡ true
+  unfolding chained headOf
+  chained-first x [] d n p e k = refl
+  chained-first x (y ∷ l) d n p e k =
+      both-of (eq-eqb _ _ e)
+      (both-of (ap (λ (z : ℕ). eqb z (orNil π (headOf 0 l))) (n y (omega (arith, occ-here y l))) ∙ both-left _ _ (both-right _ _ k))
+      (chained-links y l (λ b m. (n b (omega (arith, m, occ-more b y l)), p b (omega (arith, m, occ-more b y l)) (λ z. omega (arith, m, d y, occ-here y l, ap (λ (q : ℕ). occ q l) z)))) (both-right _ _ (both-right _ _ k))))
+
+  -- the chain l, whose last block t now points on to m
+  pub chained-join : (x t : ℕ) (l m : List ℕ) → 0 < length l → lastOf x l ≡ t → ((b : ℕ) → occ b l ≤ 1)
+      → ((b : ℕ) → 0 < occ b l → pair W b previousAt ≡ pair v b previousAt) → ((b : ℕ) → 0 < occ b l → b ≢ t → pair W b nextAt ≡ pair v b nextAt)
+      → pair W t nextAt ≡ orNil π (headOf 0 m) → chained π W t m ≡ true → chained π v x l ≡ true → chained π W x (l ++ m) ≡ true
+  unfolding chained lastOf headOf
+  chained-join x t [] m s q d p n e k h = absurd (omega arith)
+  chained-join x t (y ∷ []) m s q d p n e k h =
+      both-of (ap (λ (z : ℕ). eqb z (orNil π x)) (p y (omega (arith, occ-here y []))) ∙ both-left _ _ h)
+      (both-of (eq-eqb _ _ (ap (λ (z : ℕ). pair W z nextAt) q ∙ e)) (subst (λ (z : ℕ). chained π W z m ≡ true) (sym q) k))
+  chained-join x t (y ∷ z ∷ l) m s q d p n e k h =
+      let o : 0 < occ y (y ∷ z ∷ l) = omega (arith, occ-here y (z ∷ l)) in
+      let ne : y ≢ t = λ w. omega (arith, d t, last-occ y (z ∷ l) (omega arith), ap (λ (u : ℕ). occ u (z ∷ l)) q, occ-here t (z ∷ l), ap (λ (u : ℕ). occ t (u ∷ z ∷ l)) w) in
+      both-of (ap (λ (a : ℕ). eqb a (orNil π x)) (p y o) ∙ both-left _ _ h)
+      (both-of (ap (λ (a : ℕ). eqb a (orNil π z)) (n y o ne) ∙ both-left _ _ (both-right _ _ h))
+      (chained-join y t (z ∷ l) m (omega arith) q (λ b. omega (arith, d b, occ-more b y (z ∷ l))) (λ b i. p b (omega (arith, i, occ-more b y (z ∷ l)))) (λ b i. n b (omega (arith, i, occ-more b y (z ∷ l)))) e k
+      (both-right _ _ (both-right _ _ h))))

@@ -13,20 +13,19 @@ use borrow.Author.Tests.{ltb-true, eqb-true, eqb-false, leb-true}
 use Rattle.base.specs.Tests.{pick, both, count}
 use Rattle.base.specs.Laws.{every-at, both-left, both-right, both-of}
 use Rattle.image.specs.View.{View, Store, after, pair}
-use Rattle.image.specs.Image.{view}
+use Rattle.image.specs.Image.{view, view-settles}
 use Rattle.image.specs.Stores.{stored}
-use Rattle.volume.specs.Files.{Partition, partitionOf, unowned, blockAt, inside, candidate, len, wellFormed, isFile, files, sound}
-use Rattle.volume.specs.Agree.{Clean}
-use Rattle.volume.specs.Plans.{Plan, repairStores, repairPlan, grows}
-use Rattle.frame.specs.Soft.{cand-in, spare}
+use Rattle.volume.specs.Files.{Partition, partitionOf, unowned, blockAt, inside, candidate, len, wellFormed, isFile, isMalformed, sound}
+use Rattle.volume.specs.Frame.{Clean}
+use Rattle.volume.specs.Plans.{Plan, repairStores, repairPlan}
+use Rattle.volume.specs.Writes.{needs}
+use Rattle.frame.specs.Soft.{cand-in}
 use Rattle.frame.specs.Sound.{sound-clean, spare-block}
-use Rattle.crash.specs.Cut.{Good}
 use lib.Seq.{take-length}
 use Rattle.base.specs.declared.Refusal.{Refusal}
 use Rattle.base.specs.declared.Refusal.the-variants.{BadBuffer, Unsound, NothingFree, Full, NoCandidate, BadBlock, Malformed, BadImage, BadPartition}
-use Rattle.image.specs.Image.{view-settles}
 use Rattle.volume.specs.Words.{numberFreeAt}
-use Rattle.volume.specs.Files.{isMalformed}
+use Rattle.volume.specs.Keys.{reach}
 use Rattle.volume.specs.Answers.{imageGood, partGood, endOf, partition, lowest, lowestMalformed, checked, checkIn, checkClean, tallied}
 use Rattle.volume.specs.Answers as answers
 use Rattle.volume.specs.Calls.{Call, create, write, describe, destroy, repair, Planned, refuse, finish, planned, through, unmarred, createIn, appendIn, writeIn, describeIn, destroyIn, repairIn, room}
@@ -38,9 +37,10 @@ use Rattle.volume.specs.declared.Part.the-variants as part
 use Rattle.volume.specs.declared.Outcome.the-variants.{Done, Refused}
 use Rattle.frame.specs.Restart as restart
 use Rattle.frame.specs.Mended.{sound-is}
+use Rattle.frame.specs.Clean.{of-clean}
 use Rattle.crash.specs.Settled.{Settled, refused, done}
 use Rattle.crash.specs.Held.{Held, placed, end-is}
-use Rattle.crash.specs.Accepting.{Sound, clean-unmarred, sound-accepted, accepted-sound, settled, block}
+use Rattle.crash.specs.Accepting.{Sound, sound-accepted, accepted-sound, settled, block}
 use Rattle.crash.specs.Effect.{Effect}
 use Rattle.frame.specs.Needed.{needed, owned-needed}
 use Rattle.crash.specs.Needed.{free-unowned}
@@ -89,7 +89,7 @@ comes : (d s : ℕ) (l : List ℕ) (c : Call) → Comes (planned d l s c)
 unfolding planned createIn appendIn writeIn describeIn destroyIn repairIn
 comes d s l (create kind) = through-comes d l s true _ (λ π. either (leb (room π (view l)) 1) (refuses Full) (does _ _))
 comes d s l (write f r block) = through-comes d l s (eqb (length block) 512) _ (λ π. either (candidate π (view l) f)
-    (either (ltb r 4160) (either (ltb r (len π (view l) f)) (does _ _) (either (eqb r (len π (view l) f)) (either (leb (room π (view l)) (pick (grows π (view l) f) 2 1)) (refuses Full) (does _ _)) (refuses BadBlock))) (refuses BadBlock))
+    (either (ltb r reach) (either (ltb r (len π (view l) f)) (does _ _) (either (eqb r (len π (view l) f)) (either (leb (room π (view l)) (needs π (view l) f r)) (refuses Full) (does _ _)) (refuses BadBlock))) (refuses BadBlock))
     (refuses NoCandidate))
 comes d s l (describe f text) = through-comes d l s (eqb (length text) 104) _ (λ π. either (candidate π (view l) f) (does _ _) (refuses NoCandidate))
 comes d s l (destroy f) = through-comes d l s true _ (λ π. either (candidate π (view l) f) (does _ _) (refuses NoCandidate))
@@ -132,7 +132,7 @@ pub cut-unmarred : (d s : ℕ) (l : List ℕ) → Image l → Accepted d s l →
 cut-unmarred d s l b a c p k =
     let y = accepted-sound d s l b a in
     subst (λ (e : ℕ). lowestMalformed (partitionOf d s e) (view (stopped d s l c k)) ≡ Nothing) (sym (end-is (stopped-held (y .held) (y .is) c p k)))
-    (clean-unmarred _ _ (cut-clean (y .held) (y .is) c p k))
+    (of-clean _ _ (cut-clean (y .held) (y .is) c p k))
 
 -- ---- repair
 
@@ -256,7 +256,7 @@ unfolding checked checkIn tallied
 free-and-needed d s l b a = record {
   files = count (y .end - s) (λ i. isFile π (view l) (blockAt π i));
   answer = ap (λ (x : Part). answers.inPartition x (λ e. checkIn (partitionOf d s e) (view l))) (y .held .good)
-      ∙ ap (checkClean π (view l)) (clean-unmarred π (view l) (sound-clean π (view l) (y .is))) ∙ ap (λ (t : Bool). pick t (tallied π (view l)) (Refused Unsound)) (y .is)
+      ∙ ap (checkClean π (view l)) (of-clean π (view l) (sound-clean π (view l) (y .is))) ∙ ap (λ (t : Bool). pick t (tallied π (view l)) (Refused Unsound)) (y .is)
       ∙ ap₂ (λ (x z : ℕ). Done (count (y .end - s) (λ i. isFile π (view l) (blockAt π i))) x z) (owned-needed π (view l) ∙ sym same) (sym (free-unowned π (view l) low (y .is)));
   total = ap₂ (λ (x z : ℕ). x + z) same refl ∙ (let q = counts.free-and-needed π (view l) low (y .is) in let z : needed π (view l) + pair (view l) s numberFreeAt ≡ y .end - s = omega arith in z) ∙ ap (λ (e : ℕ). e - s) (sym (end-is (y .held)));
 }

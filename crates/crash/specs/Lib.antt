@@ -8,25 +8,23 @@ pub mod Answering
 -- files in two views, a run of stores that is cut, what makes a partition sound, and what its files need
 pub mod SameFile
 pub mod Cut
-pub mod Links
-pub mod FreeChain
-pub mod Joined
+pub mod FreeBlocks
 pub mod Whole
 pub mod Needed
 -- the calls, one by one: each changes its file alone at its deciding store, and whole leaves a sound partition
-pub mod Records
-pub mod FreeBlocks
+pub mod Fresh
 pub mod Create
 pub mod OneBlock
+pub mod Joined
+pub mod Returned
+pub mod Gone
 pub mod Destroy
-pub mod AppendTakes
-pub mod AppendForm
-pub mod AppendLinks
-pub mod AppendSound
 pub mod Effect
--- from views to images: lawful stores, what a call comes to, an image that holds a partition
+-- from views to images: lawful stores, what each call owes and comes to, an image that holds a partition
 pub mod Lawful
-pub mod AppendLawful
+pub mod LawfulRepair
+pub mod Owes
+pub mod Write
 pub mod Settled
 pub mod Stopped
 pub mod Held

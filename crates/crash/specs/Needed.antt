@@ -10,7 +10,7 @@ use Rattle.frame.specs.Sound.{sound-once, sound-within, sound-number}
 use Rattle.base.specs.Sums.{sum-same, count-sum, count-both}
 use Rattle.frame.specs.Needed.{needed, owned-needed}
 use Rattle.volume.specs.Words.{numberFreeAt}
-use Rattle.crash.specs.FreeChain.{length-sum, in-range}
+use Rattle.frame.specs.FreeChain.{length-sum, in-range}
 
 module _ (π : Partition) (v : View) where
   -- the free chain has the others

@@ -3,36 +3,57 @@
 use mathlib.Core.Path.{_≡_, refl, sym, ap, ap₂, _∙_, subst}
 use mathlib.Core.Logic.{inr, _≢_}
 use mathlib.Core.List.{[]}
-use mathlib.Core.Bool.{Bool, true, false}
-use Prim.Native.Nat.{ℕ, suc, _+_, _-_, _*_, _≤_, _<_}
+use mathlib.Core.Bool.{Bool, true, false, true≢false}
+use Prim.Native.Nat.{ℕ, _+_, _-_, _*_, _≤_, _<_}
 use native.Mathlib.Omega.{arith}
 use lib.Dec.{leb, ltb, eqb}
 use borrow.Author.Tests.{eqb-true, eqb-false, lt-ltb, le-ltb, lt-leb}
-use Rattle.base.specs.Tests.{pick, both}
-use Rattle.image.specs.View.{upd-same, upd-other, View, Rec, after, upd}
+use Rattle.base.specs.Tests.{pick, both, headOf, lastOf}
+use Rattle.image.specs.View.{upd-same, upd-other, View, Rec, after, upd, pair}
 use Rattle.image.specs.Saves.{withData, withText}
-use Rattle.volume.specs.Words.{relativeAt}
-use Rattle.volume.specs.Files.{Partition, ptrIndex, ptrSlot, inside, candidate, len, ptrs, ptr, name, wellFormed, fileOf, free, freeHead, sound}
-use Rattle.volume.specs.Frame.{SameHead, head-of, Shape, kept-wellFormed}
-use Rattle.volume.specs.Owned.{member, file-back, few-ptrs, nth-data, data-in, wf-of}
-use Rattle.volume.specs.Agree.{Clean, Alike, agree-clean, agree-owned}
-use Rattle.volume.specs.Plans.{st, replacePlan, describePlan, stores}
-use Rattle.frame.specs.Soft.{headed-is, headed-same, headed-rel, cand-in, cand-rel, ptr-of}
-use Rattle.frame.specs.Turn.{Turn, Mine, turn-free, turn-left, turn-decided}
+use Rattle.volume.specs.Words.{nextAt, previousAt, slotAt}
+use Rattle.volume.specs.Keys.{home, up, slot, child, first}
+use Rattle.volume.specs.KeyLaws.{up-most, slot-fib, number-fib}
+use Rattle.volume.specs.Files.{Partition, isLda, inside, candidate, spot, present, wellFormed, key, owned, above, below, link, free, freeHead, sound}
+use Rattle.volume.specs.Index.{spot-home, present-home, member, member-owned, file-back, key-back, present-few, present-low, present-high}
+use Rattle.volume.specs.Order.{above-is, below-is}
+use Rattle.volume.specs.Frame.{SameHead, head-of, Shape, Clean, Formed, kept-len, kept-present, kept-spot, kept-link, kept-above, kept-below, kept-wellFormed, agree-clean, agree-owned}
+use Rattle.volume.specs.Plans.{st, stores, describePlan}
+use Rattle.volume.specs.Writes.{over, replacePlan}
+use Rattle.frame.specs.Soft.{headed-is, headed-same, headed-rel, cand-in}
+use Rattle.frame.specs.Turn.{Turn, Mine, turn-free, turn-decided}
+use Rattle.frame.specs.Decides.{Good}
 use Rattle.frame.specs.Sound.{sound-clean, sound-linked, sound-once, sound-within, sound-chained, sound-head, sound-tail, sound-number, sound-some, some-free}
-use Rattle.crash.specs.Cut.{Good}
-use Rattle.crash.specs.Links.{links-of, links-same}
-use Rattle.crash.specs.FreeChain.{sound-of}
-use Rattle.crash.specs.Whole.{chained-same}
-use Rattle.crash.specs.FreeBlocks.{off-pib, first-free, first-in, own-file, data-rel, ptr-rel}
+use Rattle.frame.specs.FreeChain.{Links, links-of, sound-of}
+use Rattle.frame.specs.Reading.{two}
+use Rattle.crash.specs.FreeBlocks.{off-pib, first-free, first-in, own-file, spot≢fib}
+use Rattle.crash.specs.Joined.{chained-links}
 
--- r instead of b's record: f's content alone is changed
+-- a file of the same form, whose blocks have the same links, and whose pointer blocks the same entries
+links-same : (π : Partition) (v u : View) (f : ℕ) → wellFormed π v f ≡ true → Shape π v u f → ((b w : ℕ) → 4 ≤ w → w < 8 → v b w ≡ u b w)
+    → ((k : ℕ) → k < home → present π v f k ≡ true → u (spot π v f k) ≡ v (spot π v f k)) → Links π v f → Links π u f
+links-same π v u f wf s same inner h = record {
+  next = λ k p. let q = kept-present π v u f s k ∙ p in
+      ap (λ (b : ℕ). pair u b nextAt) (sym (kept-spot π v u f s k q)) ∙ sym (link-is (spot π v f k) 4 (omega arith) (omega arith)) ∙ h .next k q
+      ∙ kept-link π v u f s (above π v f k) (λ n. above-is π v f wf k (present-high π v f k q) .hit n .0) ∙ ap (link π u f) (kept-above π v u f s k);
+  prev = λ k p. let q = kept-present π v u f s k ∙ p in
+      ap (λ (b : ℕ). pair u b previousAt) (sym (kept-spot π v u f s k q)) ∙ sym (link-is (spot π v f k) 6 (omega arith) (omega arith)) ∙ h .prev k q
+      ∙ kept-link π v u f s (below π v f k) (λ n. below-is π v f wf k (present-low π v f k q) .hit n .0) ∙ ap (link π u f) (kept-below π v u f s k);
+  tail = λ k i l p m n. let q = kept-present π v u f s k ∙ p in
+      ap (λ (b : ℕ). pair u b (slotAt i)) (sym (kept-spot π v u f s k q)) ∙ ap (λ (x : Rec). two x (slotAt i)) (inner k l q)
+      ∙ h .tail k i l q m (subst (λ (x : ℕ). x ≤ first (child k (slotAt i))) (sym (kept-len π v u f s)) n);
+}
+  where
+    link-is : (b w : ℕ) → 4 ≤ w → w < 7 → pair v b w ≡ pair u b w
+    link-is b w l m = ap₂ (λ (x y : ℕ). x + 65536 * y) (same b w l (omega arith)) (same b (w + 1) (omega arith) (omega arith))
+
+-- r instead of the record of b, which is no pointer block: f's content alone is changed
 pub record One (π : Partition) (v : View) (f b : ℕ) (r : Rec) : Type 0 where
   pub inn : inside π b ≡ true
   pub head : SameHead (v b) r
   pub links : (w : ℕ) → 4 ≤ w → w < 8 → v b w ≡ r w
   pub fib : (w : ℕ) → 60 ≤ w → v f w ≡ upd v b r f w
-  pub off : (q : ℕ) → q < 32 → v b relativeAt ≢ 65532 - q
+  pub off : home ≤ key π v b
   pub mine : Mine π v f b r
 
 module _ (π : Partition) (v : View) (ok : sound π v ≡ true) (f : ℕ) (cf : candidate π v f ≡ true) where
@@ -53,17 +74,29 @@ module _ (π : Partition) (v : View) (ok : sound π v ≡ true) (f : ℕ) (cf : 
         go true q = subst (λ (y : ℕ). SameHead (v y) r) (sym (eqb-true x b q)) (o .head)
         go false q = head-of refl
 
-    ptr≢b : (q : ℕ) → q < ptrs π v f → ptr π v f q ≢ b
-    ptr≢b q l z = o .off q (omega (arith, few-ptrs π v f cf wf)) (ap (λ (x : ℕ). v x relativeAt) (sym z) ∙ ptr-rel π v ok f cf q l)
+    -- no pointer block is b
+    pointer : (h k : ℕ) → candidate π v h ≡ true → k < home → present π v h k ≡ true → upd v b r (spot π v h k) ≡ v (spot π v h k)
+    pointer h k ch l p = upd-other v b r _ (λ z. omega (arith, o .off, ap (key π v) (sym z) ∙ key-back π v h ch (c h ch) k p))
+
+    fib2 : (w : ℕ) → 60 ≤ w → pair v f w ≡ pair (upd v b r) f w
+    fib2 w l = ap₂ (λ (x y : ℕ). x + 65536 * y) (o .fib w l) (o .fib (w + 1) (omega arith))
 
     pub one-shape : Shape π v (upd v b r) f
     one-shape = record {
-      head = heads f;
-      fib = o .fib;
-      ptrHead = λ q l. heads (ptr π v f q);
-      dataHead = λ i l. heads (name π v f i);
-      slots = λ i l m. ap (λ (x : Rec). x (8 + 2 * ptrSlot i) + 65536 * x (8 + 2 * ptrSlot i + 1)) (sym (upd-other v b r _ (ptr≢b (ptrIndex i) (ptr-of π v f cf wf i l m))));
+      length = o .fib 258 (omega arith);
+      last = fib2 259 (omega arith);
+      used = o .fib 257 (omega arith);
+      lowest = o .fib 261 (omega arith);
+      lowAt = fib2 262 (omega arith);
+      heads = λ k p. heads (spot π v f k);
+      entries = λ k n p _. go k n p (eqb (up k) home) refl;
     }
+      where
+        go : (k : ℕ) → k ≢ home → present π v f (up k) ≡ true → (t : Bool) → eqb (up k) home ≡ t → pair v (spot π v f (up k)) (slot k) ≡ pair (upd v b r) (spot π v f (up k)) (slot k)
+        go k n p true q =
+            let z = eqb-true (up k) home q in
+            subst (λ (x : ℕ). pair v x (slot k) ≡ pair (upd v b r) x (slot k)) (sym (ap (spot π v f) z ∙ spot-home π v f)) (fib2 (slot k) (slot-fib k n z .0))
+        go k n p false q = sym (ap (λ (x : Rec). two x (slot k)) (pointer f (up k) cf (omega (arith, up-most k, eqb-false (up k) home q)) p))
 
     pub one-good : Good π v (record { before = []; deciding = st b r; rest = [] }) f
     unfolding after
@@ -71,7 +104,7 @@ module _ (π : Partition) (v : View) (ok : sound π v ≡ true) (f : ℕ) (cf : 
       early = tt;
       turn = t;
       form = form;
-      left = some-free π (upd v b r) a (first-in π v ok) (turn-free π v c (upd v b r) f t form a (first-free π v ok) (λ _. turn-left π v c (upd v b r) f t cf one-shape a (first-free π v ok)));
+      left = some-free π (upd v b r) a (first-in π v ok) (turn-free π v c (upd v b r) f t form a (first-free π v ok) (λ _. taken));
       late = tt;
     }
       where
@@ -81,6 +114,11 @@ module _ (π : Partition) (v : View) (ok : sound π v ≡ true) (f : ℕ) (cf : 
         form : candidate π (upd v b r) f ≡ true → wellFormed π (upd v b r) f ≡ true
         form _ = sym (kept-wellFormed π v (upd v b r) f one-shape) ∙ wf
 
+        taken : (k : ℕ) → present π (upd v b r) f k ≡ true → spot π (upd v b r) f k ≢ a
+        taken k p z =
+            let q = kept-present π v (upd v b r) f one-shape k ∙ p in
+            true≢false (sym (member-owned π v f cf wf k q) ∙ ap (owned π v) (kept-spot π v (upd v b r) f one-shape k q ∙ z) ∙ first-free π v ok)
+
     -- ---- whole, it leaves a sound partition
 
     turn₁ : Turn π v (upd v b r) f
@@ -88,9 +126,9 @@ module _ (π : Partition) (v : View) (ok : sound π v ≡ true) (f : ℕ) (cf : 
     turn₁ = one-good .turn
 
     same-f : candidate π v f ≡ candidate π (upd v b r) f
-    same-f = headed-is π v f ∙ headed-same π f (one-shape .head) ∙ sym (headed-is π (upd v b r) f)
+    same-f = headed-is π v f ∙ headed-same π f (heads f) ∙ sym (headed-is π (upd v b r) f)
 
-    al : Alike π v (upd v b r)
+    al : Formed π v (upd v b r)
     al = record { shape = λ h k. sh h k (eqb h f) refl; cands = λ h. ca h (eqb h f) refl }
       where
         sh : (h : ℕ) → candidate π v h ≡ true → (t : Bool) → eqb h f ≡ t → Shape π v (upd v b r) h
@@ -101,33 +139,37 @@ module _ (π : Partition) (v : View) (ok : sound π v ≡ true) (f : ℕ) (cf : 
         ca h true q = subst (λ (x : ℕ). candidate π v x ≡ candidate π (upd v b r) x) (sym (eqb-true h f q)) same-f
         ca h false q = turn₁ .cands h (eqb-false h f q)
 
-    link : (x w : ℕ) → 4 ≤ w → w < 8 → v x w ≡ upd v b r x w
-    link x w l m = go (eqb x b) refl
+    link-word : (x w : ℕ) → 4 ≤ w → w < 8 → v x w ≡ upd v b r x w
+    link-word x w l m = go (eqb x b) refl
       where
         go : (t : Bool) → eqb x b ≡ t → v x w ≡ pick t r (v x) w
         go true q = ap (λ (y : ℕ). v y w) (eqb-true x b q) ∙ o .links w l m
         go false q = refl
 
-    W-pib : upd v b r π.s ≡ v π.s
-    W-pib = upd-other v b r π.s (λ z. off-pib π b (o .inn) (sym z))
+    link2 : (x w : ℕ) → 4 ≤ w → w < 7 → pair (upd v b r) x w ≡ pair v x w
+    link2 x w l m = sym (ap₂ (λ (y z : ℕ). y + 65536 * z) (link-word x w l (omega arith)) (link-word x (w + 1) (omega arith) (omega arith)))
 
-    pub one-sound : π.s < π.e → sound π (upd v b r) ≡ true
+    W-pib : upd v b r (π .s) ≡ v (π .s)
+    W-pib = upd-other v b r (π .s) (λ z. off-pib π b (o .inn) (sym z))
+
+    pub one-sound : π .s < π .e → sound π (upd v b r) ≡ true
     one-sound low = sound-of π (upd v b r) (free π v) low
         (record {
           inn = sound-within π v ok;
-          ways = chained-same π v (upd v b r) 0 (free π v) (λ x _. (ap₂ (λ (y z : ℕ). y + 65536 * z) (link x 4 (omega arith) (omega arith)) (link x 5 (omega arith) (omega arith)), ap₂ (λ (y z : ℕ). y + 65536 * z) (link x 6 (omega arith) (omega arith)) (link x 7 (omega arith) (omega arith)))) (sound-chained π v ok);
+          ways = chained-links π v (upd v b r) 0 (free π v) (λ x _. (link2 x 4 (omega arith) (omega arith), link2 x 6 (omega arith) (omega arith))) (sound-chained π v ok);
           once = λ x n. sound-once π v ok x n ∙ ap (λ (t : Bool). pick t 0 1) (agree-owned π v (upd v b r) c al x);
-          head = ap (λ (y : Rec). y 8 + 65536 * y 9) W-pib ∙ sound-head π v ok;
-          tail = ap (λ (y : Rec). y 10 + 65536 * y 11) W-pib ∙ sound-tail π v ok;
-          number = ap (λ (y : Rec). y 12 + 65536 * y 13) W-pib ∙ sound-number π v ok;
+          head = ap (λ (y : Rec). isLda (π .drive) (two y 8) (headOf 0 (free π v))) W-pib ∙ sound-head π v ok;
+          tail = ap (λ (y : Rec). isLda (π .drive) (two y 10) (lastOf 0 (free π v))) W-pib ∙ sound-tail π v ok;
+          number = ap (λ (y : Rec). two y 12) W-pib ∙ sound-number π v ok;
           some = sound-some π v ok;
         })
         (agree-clean π v (upd v b r) c al)
-        (λ h k. let c₀ = al .cands h ∙ k in links-same π v (upd v b r) h (al .shape h c₀) (λ i w _ l m. link _ w l m)
-        (λ q w _. ap (λ (y : Rec). y w) (sym (upd-other v b r _ (λ z. o .off (ptrs π v h - 1) (omega (arith, few-ptrs π v h c₀ (c h c₀))) (ap (λ (y : ℕ). v y relativeAt) (sym z) ∙ ptr-rel π v ok h c₀ (ptrs π v h - 1) (omega arith))))))
-        (links-of π v h (sound-linked π v ok h c₀)))
+        (λ h k. let c₀ = al .cands h ∙ k in links-same π v (upd v b r) h (c h c₀) (al .shape h c₀) link-word (λ j. pointer h j c₀) (links-of π v h (sound-linked π v ok h c₀)))
 
   -- ---- the two calls
+
+  fib-key : key π v f ≡ home
+  fib-key = subst (λ (x : ℕ). key π v x ≡ home) (spot-home π v f) (key-back π v f cf wf home (present-home π v f))
 
   pub describe-one : (dat : Rec) → One π v f f (withText dat (v f))
   unfolding both withText
@@ -136,7 +178,7 @@ module _ (π : Partition) (v : View) (ok : sound π v ≡ true) (f : ℕ) (cf : 
     head = record { low = refl; high = refl; rel = refl };
     links = λ w l m. sym (ap (λ (t : Bool). pick (both t (ltb w 60)) (dat (w - 8)) (v f w)) (lt-leb 8 w m));
     fib = λ w l. sym (ap (λ (x : Rec). x w) (upd-same v f (withText dat (v f))) ∙ ap (λ (t : Bool). pick t (dat (w - 8)) (v f w)) (off w l (leb 8 w)));
-    off = λ q l z. omega (arith, cand-rel π v f cf);
+    off = omega (arith, fib-key);
     mine = λ _. inr ((λ _. own-file π v ok f cf), λ n. absurd (n refl));
   }
     where
@@ -148,34 +190,32 @@ module _ (π : Partition) (v : View) (ok : sound π v ≡ true) (f : ℕ) (cf : 
   unfolding describePlan
   describe-good dat = one-good f (withText dat (v f)) (describe-one dat)
 
-  pub describe-sound : (dat : Rec) → π.s < π.e → sound π (after (stores (describePlan π v f dat)) v) ≡ true
+  pub describe-sound : (dat : Rec) → π .s < π .e → sound π (after (stores (describePlan π v f dat)) v) ≡ true
   unfolding describePlan stores after
   describe-sound dat low = one-sound f (withText dat (v f)) (describe-one dat) low
 
-  pub replace-one : (i : ℕ) (dat : Rec) → i < len π v f → One π v f (name π v f i) (withData dat (v (name π v f i)))
-  unfolding withData
-  replace-one i dat l = record {
-    inn = subst (λ (x : ℕ). inside π x ≡ true) (nth-data π v f i) (member π v f cf wf (ptrs π v f + suc i) (data-in π v f i l) .ins);
-    head = record { low = refl; high = refl; rel = refl };
-    links = λ w m n. sym (ap (λ (t : Bool). pick t (v b w) (dat (w - 8))) (lt-ltb w 8 n));
-    fib = λ w m. sym (ap (λ (x : Rec). x w) (upd-other v b (withData dat (v (name π v f i))) f (λ z. omega (arith, data-rel π v ok f cf i l, cand-rel π v f cf, ap (λ (x : ℕ). v x relativeAt) z, short))));
-    off = λ q m z. omega (arith, data-rel π v ok f cf i l, short);
-    mine = λ _. inr ((λ _. file-name), λ n. headed-rel π b (withData dat (v (name π v f i))) (λ z. omega (arith, data-rel π v ok f cf i l, short)));
-  }
-    where
-      b : ℕ
-      b = name π v f i
+  -- a data block that is present
+  module _ (k : ℕ) (d : home < k) (p : present π v f k ≡ true) (dat : Rec) where
+    pub replace-one : One π v f (spot π v f k) (withData dat (v (spot π v f k)))
+    unfolding withData
+    replace-one = record {
+      inn = member π v f cf wf k p .ins;
+      head = record { low = refl; high = refl; rel = refl };
+      links = λ w m n. sym (ap (λ (t : Bool). pick t (v (spot π v f k) w) (dat (w - 8))) (lt-ltb w 8 n));
+      fib = λ w m. sym (ap (λ (x : Rec). x w) (upd-other v (spot π v f k) _ f (λ z. spot≢fib π v ok f cf k p (λ y. omega arith) (sym z))));
+      off = omega (arith, key-back π v f cf wf k p);
+      mine = λ _. inr (
+        (λ _. file-back π v f cf wf k p),
+        λ n. headed-rel π (spot π v f k) (withData dat (v (spot π v f k)))
+            (λ z. omega (arith, number-fib k (omega (arith, present-few π v f cf wf k p)) (sym (member π v f cf wf k p .num) ∙ z))),
+      );
+    }
 
-      short : len π v f ≤ 4160
-      short = wf-of π v f wf .short
+  module _ (i : ℕ) (dat : Rec) (here : present π v f (292 + i) ≡ true) where
+    pub replace-good : Good π v (replacePlan π v f i dat) f
+    unfolding replacePlan over
+    replace-good = one-good (spot π v f (292 + i)) (withData dat (v (spot π v f (292 + i)))) (replace-one (292 + i) (omega arith) here dat)
 
-      file-name : fileOf π v (name π v f i) ≡ f
-      file-name = subst (λ (x : ℕ). fileOf π v x ≡ f) (nth-data π v f i) (file-back π v f cf wf (ptrs π v f + suc i) (data-in π v f i l))
-
-  pub replace-good : (i : ℕ) (dat : Rec) → i < len π v f → Good π v (replacePlan π v f i dat) f
-  unfolding replacePlan
-  replace-good i dat l = one-good (name π v f i) (withData dat (v (name π v f i))) (replace-one i dat l)
-
-  pub replace-sound : (i : ℕ) (dat : Rec) → i < len π v f → π.s < π.e → sound π (after (stores (replacePlan π v f i dat)) v) ≡ true
-  unfolding replacePlan stores after
-  replace-sound i dat l low = one-sound (name π v f i) (withData dat (v (name π v f i))) (replace-one i dat l) low
+    pub replace-sound : π .s < π .e → sound π (after (stores (replacePlan π v f i dat)) v) ≡ true
+    unfolding replacePlan over stores after
+    replace-sound low = one-sound (spot π v f (292 + i)) (withData dat (v (spot π v f (292 + i)))) (replace-one (292 + i) (omega arith) here dat) low

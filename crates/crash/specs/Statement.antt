@@ -5,7 +5,7 @@
 -- end, is never refused, and check accepts the result. Every file but the one that the stopped call names or creates has the same blocks,
 -- bytes, kind and description as before that call. That one is wholly as before it, or wholly as after the whole call, by whether the
 -- deciding store was made; whether a file is there counts.
-use mathlib.Core.Path.{_≡_, refl}
+use mathlib.Core.Path.{_≡_}
 use mathlib.Core.Logic.{_≢_}
 use mathlib.Core.Bool.{Bool, true, false}
 use mathlib.Core.List.{List, [], _∷_}
@@ -16,9 +16,9 @@ use Rattle.base.specs.Tests.{pick}
 use Rattle.image.specs.Image.{view, Bytes}
 use Rattle.image.specs.Stores.{stored}
 use Rattle.volume.specs.Words.{dataAt, kindAt}
-use Rattle.volume.specs.Files.{Partition, partitionOf, isFile, len, name, nth, size, freeHead}
+use Rattle.volume.specs.Files.{Partition, partitionOf, isFile, len, present, spot, name, freeHead}
 use Rattle.volume.specs.Answers.{endOf, checked}
-use Rattle.volume.specs.Calls.{Call, create, write, describe, destroy, repair, planned}
+use Rattle.volume.specs.Calls.{Call, create, write, describe, destroy, repair, planned, decided}
 use Rattle.volume.specs.declared.Found.{Found}
 use Rattle.volume.specs.declared.Found.the-variants.{At, Nothing}
 use Rattle.volume.specs.declared.Outcome.{Outcome}
@@ -74,10 +74,11 @@ module _ (d s : ℕ) where
   abbrev pub isFileOf : List ℕ → ℕ → Bool
   isFileOf l f = isFile (here l) (view l) f
 
-  -- file f has the same blocks in link order, the same bytes, kind and description in two images
+  -- file f has the same blocks in link order, key by key, the same bytes, kind and description in two images
   pub record SameContent (l l′ : List ℕ) (f : ℕ) : Type 0 where
     pub long : len (here l) (view l) f ≡ len (here l′) (view l′) f
-    pub blocks : (i : ℕ) → i < size (here l) (view l) f → nth (here l) (view l) f i ≡ nth (here l′) (view l′) f i
+    pub keys : (k : ℕ) → present (here l) (view l) f k ≡ present (here l′) (view l′) f k
+    pub blocks : (k : ℕ) → present (here l) (view l) f k ≡ true → spot (here l) (view l) f k ≡ spot (here l′) (view l′) f k
     pub bytes : (r : ℕ) → r < len (here l) (view l) f → (k : ℕ) → k < 256
         → view l (name (here l) (view l) f r) (dataAt k) ≡ view l′ (name (here l′) (view l′) f r) (dataAt k)
     pub kind : view l f kindAt ≡ view l′ f kindAt
@@ -101,7 +102,7 @@ module _ (d s : ℕ) where
     pub not-refused : isDone (planned d l′ s repair .outcome) ≡ true
     pub accepted : Accepted (whole l′ repair)
     pub others : (f : ℕ) → named l c ≢ At f → SameFile l (whole l′ repair) f
-    pub all-or-none : (f : ℕ) → named l c ≡ At f → SameFile (pick (ltb (planned d l s c .deciding) k) (whole l c) l) (whole l′ repair) f
+    pub all-or-none : (f : ℕ) → named l c ≡ At f → SameFile (pick (ltb 0 (decided (planned d l s c .deciding) k)) (whole l c) l) (whole l′ repair) f
 
 -- demand 3
 abbrev pub Demand3 : Type 0

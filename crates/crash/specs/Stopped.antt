@@ -3,17 +3,17 @@ use mathlib.Core.Path.{_≡_, refl, subst}
 use mathlib.Core.Logic.{_≢_}
 use mathlib.Core.List.{[]}
 use mathlib.Core.Bool.{Bool, true, false}
-use Prim.Native.Nat.{ℕ, zero, suc, _<_}
+use Prim.Native.Nat.{ℕ, zero, suc, _+_, _<_}
 use lib.Dec.{ltb}
 use lib.ListN.{take, length}
 use borrow.Author.Tests.{ltb-true, ltb-false}
 use Rattle.base.specs.Tests.{pick}
 use Rattle.image.specs.View.{View, after}
 use Rattle.volume.specs.Files.{Partition, unowned, sound}
-use Rattle.volume.specs.Agree.{Clean}
+use Rattle.volume.specs.Frame.{Clean}
 use Rattle.volume.specs.Plans.{stores}
 use Rattle.frame.specs.Sound.{sound-clean, spare-block}
-use Rattle.volume.specs.Calls.{Planned}
+use Rattle.volume.specs.Calls.{Planned, decided}
 use Rattle.crash.specs.SameFile.{SameFile, file-refl}
 use Rattle.crash.specs.Cut.{Repairs, Survives, survives, cut-before, cut-after, others-same}
 use Rattle.crash.specs.Settled.{Settled, refused, done}
@@ -45,15 +45,11 @@ module _ (π : Partition) (low : π.s < π.e) (pos : 0 < π.s) (v : View) (ok : 
   -- stopped after k stores, and repaired up to u: the next repair is not refused, and ends with the files of before the call, or of the
   -- whole call if the deciding store was made
   pub stopped-survives : (x : Planned) → Settled π v f E x → (k : ℕ) {u : View} → Repairs π (after (take k (x .list)) v) u
-      → Survives π (pick (ltb (x .deciding) k) (after (x .list) v) v) u
-  unfolding after stores
-  stopped-survives _ (refused y) k {u} r = go (ltb 0 k)
-    where
-      go : (t : Bool) → Survives π (pick t v v) u
-      go true = survives π low pos v cl some (subst (λ (w : View). Repairs π w u) (none k) r)
-      go false = survives π low pos v cl some (subst (λ (w : View). Repairs π w u) (none k) r)
+      → Survives π (pick (ltb 0 (decided (x .deciding) k)) (after (x .list) v) v) u
+  unfolding after stores decided
+  stopped-survives _ (refused y) k {u} r = survives π low pos v cl some (subst (λ (w : View). Repairs π w u) (none k) r)
   stopped-survives _ (done a P o) k {u} r = go (ltb (length (P .before)) k) refl r
     where
-      go : (t : Bool) → ltb (length (P .before)) k ≡ t → Repairs π (after (take k (stores P)) v) u → Survives π (pick t (after (stores P) v) v) u
+      go : (t : Bool) → ltb (length (P .before)) k ≡ t → Repairs π (after (take k (stores P)) v) u → Survives π (pick (ltb 0 (pick t 1 0 + 0)) (after (stores P) v) v) u
       go true q r = cut-after π low pos v cl some (P .before) (P .deciding) (P .rest) f (o .good) k (ltb-true _ _ q) r
       go false q r = cut-before π low pos v cl some (P .before) (P .deciding) (P .rest) f (o .good) k (ltb-false _ _ q) r

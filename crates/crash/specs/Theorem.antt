@@ -1,30 +1,30 @@
 -- Demand 3, proved.
-use mathlib.Core.Path.{_≡_, refl, sym, ap, ap₂, _∙_, subst}
+use mathlib.Core.Path.{_≡_, refl, sym, ap, _∙_, subst}
 use mathlib.Core.Logic.{_≢_}
 use mathlib.Core.List.{List, [], _∷_}
 use mathlib.Core.Bool.{Bool, true, false, true≢false}
-use Prim.Native.Nat.{ℕ, suc, _+_, _-_, _*_, _<_}
+use Prim.Native.Nat.{ℕ, _+_, _<_}
 use native.Mathlib.Omega.{arith}
 use lib.Dec.{leb, ltb, eqb}
 use lib.ListN.{take, length}
-use borrow.Author.Tests.{ltb-true, ltb-false, eqb-true, eqb-false}
+use borrow.Author.Tests.{ltb-true, eqb-true, eqb-false}
 use Rattle.base.specs.Tests.{pick, both}
-use Rattle.base.specs.Laws.{pick-same, both-left}
-use Rattle.drive.specs.Address.{ldaBlock}
+use Rattle.base.specs.Laws.{both-left}
 use Rattle.image.specs.View.{View, Store, after}
 use Rattle.image.specs.Image.{view}
-use Rattle.volume.specs.Files.{Partition, partitionOf, unowned, inside, candidate, len, ptrsFor, ptrs, indirect, ptr, name, nth, size, wellFormed, isFile, files, sound}
-use Rattle.volume.specs.Agree.{Clean}
+use Rattle.volume.specs.Files.{Partition, partitionOf, unowned, inside, candidate, len, present, spot, name, wellFormed, isFile, sound}
+use Rattle.volume.specs.Frame.{Clean}
 use Rattle.volume.specs.Plans.{repairStores}
-use Rattle.frame.specs.Soft.{cand-in, spare}
+use Rattle.frame.specs.Soft.{cand-in}
 use Rattle.frame.specs.Turn.{Each, each-take}
-use Rattle.volume.specs.Calls.{Call, create, write, describe, destroy, repair, Planned, planned}
+use Rattle.volume.specs.Calls.{Call, create, write, describe, destroy, repair, Planned, planned, decided}
 use Rattle.volume.specs.declared.Found.the-variants.{At}
 use Rattle.crash.specs.SameFile as views
-use Rattle.crash.specs.SameFile.{file-trans, file-refl, file-same}
+use Rattle.crash.specs.SameFile.{file-trans, file-refl, file-same, same-bytes}
 use Rattle.crash.specs.Cut as cuts
 use Rattle.crash.specs.Cut.{survives}
-use Rattle.crash.specs.Lawful.{Lawful, repair-lawful}
+use Rattle.crash.specs.Lawful.{Lawful}
+use Rattle.crash.specs.LawfulRepair.{repair-lawful}
 use Rattle.crash.specs.Settled.{Settled, refused, done}
 use Rattle.crash.specs.Stopped.{whole-sound, whole-others, stopped-survives}
 use Rattle.crash.specs.Effect.{Effect}
@@ -46,32 +46,18 @@ module _ {d s e : ℕ} {l l′ : List ℕ} (h : Held d s e l) (h′ : Held d s e
 
   module _ (f : ℕ) (q : views.SameFile (partitionOf d s e) (view l) (view l′) f) where
     module _ (i : isFile (partitionOf d s e) (view l) f ≡ true) where
-      ptrs-same : ptrs π (view l) f ≡ ptrs π (view l′) f
-      unfolding ptrs
-      ptrs-same = ap ptrsFor (q .long i)
-
-      ptr-same : (j : ℕ) → ptr π (view l) f j ≡ ptr π (view l′) f j
-      unfolding ptr indirect
-      ptr-same j = ap (ldaBlock d) (ap₂ (λ (x y : ℕ). x + 65536 * y) (q .fib i (188 + 2 * j) (omega arith)) (q .fib i (188 + 2 * j + 1) (omega arith)))
-
-      -- place by place in link order
-      nth-same : (j : ℕ) → j < size π (view l) f → nth π (view l) f j ≡ nth π (view l′) f j
-      unfolding nth size
-      nth-same j m =
-          let p = ptrs π (view l) f in
-          pick-same (ltb j p) (λ _. ptr-same (p - suc j))
-          (λ n. pick-same (eqb j p) (λ _. refl) (λ k. q .blocks i (j - suc p) (omega (arith, ltb-false j p n, eqb-false j p k))))
-          ∙ ap (λ (x : ℕ). pick (ltb j x) (ptr π (view l′) f (x - suc j)) (pick (eqb j x) f (name π (view l′) f (j - suc x)))) ptrs-same
-
       same-content : SameContent d s l l′ f
       same-content = record {
         long = ap (λ (ρ : Partition). len ρ (view l) f) here-is ∙ q .long i ∙ sym (ap (λ (ρ : Partition). len ρ (view l′) f) here-is′);
-        blocks = λ j m. ap (λ (ρ : Partition). nth ρ (view l) f j) here-is ∙ nth-same j (subst (λ (ρ : Partition). j < size ρ (view l) f) here-is m) ∙ sym (ap (λ (ρ : Partition). nth ρ (view l′) f j) here-is′);
+        keys = λ k. ap (λ (ρ : Partition). present ρ (view l) f k) here-is ∙ q .keys i k ∙ sym (ap (λ (ρ : Partition). present ρ (view l′) f k) here-is′);
+        blocks = λ k p. ap (λ (ρ : Partition). spot ρ (view l) f k) here-is
+            ∙ q .blocks i k (subst (λ (ρ : Partition). present ρ (view l) f k ≡ true) here-is p)
+            ∙ sym (ap (λ (ρ : Partition). spot ρ (view l′) f k) here-is′);
         bytes = λ r m k _. ap (λ (ρ : Partition). view l (name ρ (view l) f r) (8 + k)) here-is
-            ∙ q .bytes i r (subst (λ (ρ : Partition). r < len ρ (view l) f) here-is m) (8 + k) (omega arith)
+            ∙ same-bytes π (view l) (view l′) f q i r (subst (λ (ρ : Partition). r < len ρ (view l) f) here-is m) (8 + k) (omega arith)
             ∙ sym (ap (λ (ρ : Partition). view l′ (name ρ (view l′) f r) (8 + k)) here-is′);
-        kind = q .fib i 256 (omega arith);
-        description = λ k _. q .fib i (8 + k) (omega arith);
+        kind = q .kind i;
+        description = λ k m. q .text i (8 + k) (omega arith) (omega arith);
       }
 
     pub same-file : SameFile d s l l′ f
@@ -212,7 +198,7 @@ module _ {d s e : ℕ} {l : List ℕ} (h : Held d s e l) (ok : sound (partitionO
   xs = planned d l s c .list
 
   -- at the view
-  outlives : {u : View} → cuts.Repairs (partitionOf d s e) (view (stopped d s l c n)) u → cuts.Survives (partitionOf d s e) (pick (ltb (planned d l s c .deciding) n) (after (planned d l s c .list) (view l)) (view l)) u
+  outlives : {u : View} → cuts.Repairs (partitionOf d s e) (view (stopped d s l c n)) u → cuts.Survives (partitionOf d s e) (pick (ltb 0 (decided (planned d l s c .deciding) n)) (after (planned d l s c .list) (view l)) (view l)) u
   outlives {u} r = stopped-survives π₄ (placed h .low) (placed h .pos) (view l) ok (block h c) (Effect (partitionOf d s e) c (view l)) (planned d l s c) (plan h ok c p) n
       (subst (λ (w : View). cuts.Repairs π₄ w u) (stopped-view h ok c p n) r)
 
@@ -234,8 +220,8 @@ module _ {d s e : ℕ} {l : List ℕ} (h : Held d s e l) (ok : sound (partitionO
   survived l′ r = record {
     not-refused = repair-done hu (y .clean) (y .spare);
     accepted = sound-accepted hm (ap (sound π₄) vm ∙ y .sound);
-    others = λ f q. same-file h hm f (subst (λ (w : View). views.SameFile π₄ (view l) w f) (sym vm) (file-trans (part (ltb (planned d l s c .deciding) n) f q) (y .files f)));
-    all-or-none = λ f _. choose (ltb (planned d l s c .deciding) n) f (y .files f);
+    others = λ f q. same-file h hm f (subst (λ (w : View). views.SameFile π₄ (view l) w f) (sym vm) (file-trans (part (ltb 0 (decided (planned d l s c .deciding) n)) f q) (y .files f)));
+    all-or-none = λ f _. choose (ltb 0 (decided (planned d l s c .deciding) n)) f (y .files f);
   }
     where
       x : Reached d s e (view (stopped d s l c n)) l′
@@ -244,7 +230,7 @@ module _ {d s e : ℕ} {l : List ℕ} (h : Held d s e l) (ok : sound (partitionO
       hu : Held d s e l′
       hu = x .held
 
-      y : cuts.Survives π₄ (pick (ltb (planned d l s c .deciding) n) (after xs (view l)) (view l)) (view l′)
+      y : cuts.Survives π₄ (pick (ltb 0 (decided (planned d l s c .deciding) n)) (after xs (view l)) (view l)) (view l′)
       y = outlives (x .repairs)
 
       hm : Held d s e (whole d s l′ repair)

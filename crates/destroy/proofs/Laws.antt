@@ -1,16 +1,19 @@
 -- The ways through destroy: what it comes to, and where its blocks lie.
-use mathlib.Core.Path.{_≡_}
+use mathlib.Core.Path.{_≡_, sym, ap, _∙_}
 use mathlib.Core.List.{List}
 use mathlib.Core.Bool.{true, false}
-use Prim.Native.Nat.{ℕ, _+_, _≤_}
+use Prim.Native.Nat.{ℕ, _+_, _≤_, _<_}
+use lib.Dec.{eqb}
 use Rattle.image.specs.View.{View}
 use Rattle.image.specs.Image.{view}
 use Rattle.base.specs.declared.Refusal.the-variants.{NoCandidate}
-use Rattle.volume.specs.Files.{Partition, partitionOf, candidate, len, ptrs, ptrsFor, nth, freeHead}
+use Rattle.volume.specs.Keys.{home, low}
+use Rattle.volume.specs.Closed.{sizeOf, least-closed, size-closed}
+use Rattle.volume.specs.Files.{Partition, partitionOf, candidate, wellFormed, len, spot, present, freeHead}
 use Rattle.volume.specs.Plans.{destroyed, destroyPlan, freeTail}
 use Rattle.volume.specs.Calls.{refuse, finish, destroyIn}
 use Rattle.inspect.specs.Parts.{Opened}
-use Rattle.inspect.proofs.Laws.{opened-few}
+use Rattle.inspect.proofs.Laws.{opened-least}
 use Rattle.records.specs.Records.{Block, Destroys}
 use Rattle.change.specs.Gate.{Opens}
 use Rattle.change.proofs.Laws.{block-to, block-pib, block-fib, room-is, room-few}
@@ -20,21 +23,26 @@ module _ (π : Partition) (v : View) (f : ℕ) where
   unfolding destroyIn
   destroy-nowhere c = rw (destroyIn, c)
 
-  pub destroy-is : (k p top last tail h : ℕ) → candidate π v f ≡ true → k ≡ len π v f → p ≡ ptrsFor k → top ≡ nth π v f 0 → last ≡ nth π v f (p + k)
-      → tail ≡ freeTail π v → h ≡ freeHead π v → destroyIn π v f ≡ finish 0 (destroyed (π .drive) v (π .s) f p k top last tail h)
-  unfolding destroyIn destroyPlan ptrs
-  destroy-is k p top last tail h c hk hp ht hl htl hh = rw (ht, hl, htl, hh, hp, hk, destroyIn, c)
+  -- k blocks, the first key a, n blocks in use
+  pub destroy-is : (k a n top last tail h : ℕ) → candidate π v f ≡ true → wellFormed π v f ≡ true → k ≡ len π v f → a ≡ low k → n ≡ sizeOf k
+      → top ≡ spot π v f a → last ≡ spot π v f (home + k) → tail ≡ freeTail π v → h ≡ freeHead π v
+      → destroyIn π v f ≡ finish 0 (destroyed (π .drive) v (π .s) f (eqb a home) (eqb k 0) n top last tail h)
+  unfolding destroyIn destroyPlan
+  destroy-is k a n top last tail h c wf hk ha hn ht hl htl hh = rw (ht, hl, htl, hh, hn, ha, hk, destroyIn, c, least-closed π v f wf, size-closed π v f wf)
 
-pub destroys : {d : ℕ} {l : List ℕ} {s e : ℕ} → Opens d l s e → {f p k : ℕ} → candidate (partitionOf d s e) (view l) f ≡ true → Opened (partitionOf d s e) l f p k
-    → (top last tail : ℕ) → top ≤ e → last ≤ e → Block l tail → Destroys l s f p k top last tail
-destroys o {f} c x top last tail ht hl b =
+-- the first key of an open file
+pub first-here : {π : Partition} {l : List ℕ} {f : ℕ} → Opened π l f → (k a : ℕ) → k ≡ len π (view l) f → a ≡ low k → present π (view l) f a ≡ true
+first-here {π} {l} {f} o k a hk ha = ap (present π (view l) f) (ha ∙ ap low hk ∙ sym (least-closed π (view l) f (o .formed))) ∙ opened-least o
+
+pub destroys : {d : ℕ} {l : List ℕ} {s e : ℕ} → Opens d l s e → {f : ℕ} → candidate (partitionOf d s e) (view l) f ≡ true
+    → (n top last tail : ℕ) → n < 65536 → top ≤ e → last ≤ e → Block l tail → Destroys l s f n top last tail
+destroys o {f} c n top last tail hn ht hl b =
     record {
       s-in = block-pib o;
       f-in = block-fib o f c;
       top-in = block-to o top ht;
       last-in = block-to o last hl;
       tail-in = b;
-      p-few = opened-few x;
-      k-few = x .short;
+      n-few = hn;
       free-few = rw (room-is o) (room-few o);
     }

@@ -1,10 +1,10 @@
 // The changing call destroy: the file's blocks go to the end of the free chain.
-ghost use mathlib.Core.Path.{_≡_};
 ghost use Rattle.image.specs.Image.{view};
 ghost use Rattle.volume.specs.Files.{partitionOf};
 ghost use Rattle.volume.specs.Calls.{destroyIn, Answered, planned, destroy};
 ghost use Rattle.change.specs.Gate.{Opens};
 use base::Refusal;
+use inspect::HOME;
 use volume::Answer;
 use volume::Part;
 
@@ -17,13 +17,16 @@ fn destroy_open(img: &mut [u8], drive: usize, s: usize, e: usize, f: usize, limi
         return change::refused(Refusal::NoCandidate);
     }
     let k = inspect::len(img, drive, s, e, f);
-    let p = inspect::ptrs_for(k);
-    let top = inspect::nth(img, drive, s, e, f, p, k, 0);
-    let last = inspect::nth(img, drive, s, e, f, p, k, p + k);
+    let low = inspect::low(k);
+    let n = inspect::size_of(k);
+    let top = inspect::spot(img, drive, s, e, f, low);
+    let last = inspect::spot(img, drive, s, e, f, HOME + k);
     let tail = change::free::tail(img, drive, s, e);
     let h = change::free::head(img, drive, s, e);
-    let n = erase::destroy_store(img, drive, s, f, p, k, top, last, tail, h, limit);
-    change::done(0, n)
+    let alone = low == HOME;
+    let empty = k == 0;
+    let made = erase::destroy_store(img, drive, s, f, alone, empty, n, top, last, tail, h, limit);
+    change::done(0, made)
 }
 
 // Destroy: the file f is no more.

@@ -7,7 +7,7 @@ use native.Mathlib.Omega.{arith}
 use lib.ListN.{length}
 use Rattle.base.specs.Laws.{both-right}
 use Rattle.image.specs.Image.{view}
-use Rattle.volume.specs.Files.{partitionOf, isFile, len, ptrsFor}
+use Rattle.volume.specs.Files.{partitionOf, isFile}
 use Rattle.volume.specs.Reads.{Lies}
 use Rattle.inspect.specs.Parts.{Opened}
 use Rattle.inspect.proofs.Laws.{wf-opened}
@@ -17,6 +17,6 @@ module _ (d : ℕ) (l : List ℕ) (s e : ℕ) (i : Lies d l s e) (f : ℕ) (h : 
   pub file-inside : 528 * f + 528 ≤ length l
   file-inside = let z = file-in (partitionOf d s e) l f h in let w = i .within in omega arith
 
-  pub file-opened : (p k : ℕ) → k ≡ len (partitionOf d s e) (view l) f → p ≡ ptrsFor k → Opened (partitionOf d s e) l f p k
+  pub file-opened : Opened (partitionOf d s e) l f
   unfolding isFile
-  file-opened p k q r = wf-opened f k p i (file-in (partitionOf d s e) l f h) q r (both-right _ _ h)
+  file-opened = wf-opened f i (file-in (partitionOf d s e) l f h) (both-right _ _ h)

@@ -87,7 +87,7 @@ isDirectory l f = eqb (view l f fileTypeAt) 3
 module _ (π : Partition) (l : List ℕ) where
   -- the file that x is the LDA of
   unfoldable pub fileAt : ℕ → Found
-  fileAt x = let t = ldaBlock (π .drive) x in pick (both (isLda π x t) (isFile π (view l) t)) (At t) Nothing
+  fileAt x = let t = ldaBlock (π .drive) x in pick (both (isLda (π .drive) x t) (isFile π (view l) t)) (At t) Nothing
 
   -- the root directory, which is not asked for its type
   abbrev pub rootOf : Found

@@ -149,12 +149,12 @@ pub ruleset takes = (taken-even, taken-short, taken-long, taken-last, needs)
 
 module _ (d s e : ℕ) (l : List ℕ) (x t y : ℕ) (p : t ≡ ldaBlock d x) (q : y ≡ lda d t) where
   pub target-odd : (y ≡ x → ⊥) → Nothing ≡ fileAt (partitionOf d s e) l x
-  unfolding fileAt both
-  target-odd h = rw (fileAt, ne-eqb x (lda d (ldaBlock d x)) (λ z. h (q ∙ ap (lda d) p ∙ sym z)), both)
+  unfolding fileAt both isLda
+  target-odd h = rw (fileAt, isLda, ne-eqb x (lda d (ldaBlock d x)) (λ z. h (q ∙ ap (lda d) p ∙ sym z)), both)
 
   known : (r : Bool) → r ≡ isFile (partitionOf d s e) (view l) t → y ≡ x → pick r (At t) Nothing ≡ fileAt (partitionOf d s e) l x
-  unfolding fileAt both
-  known r z h = rw (fileAt, eq-eqb x (lda d (ldaBlock d x)) (sym h ∙ q ∙ ap (lda d) p), both, ← p, ← z)
+  unfolding fileAt both isLda
+  known r z h = rw (fileAt, isLda, eq-eqb x (lda d (ldaBlock d x)) (sym h ∙ q ∙ ap (lda d) p), both, ← p, ← z)
 
   pub target-file : (r : Bool) → r ≡ isFile (partitionOf d s e) (view l) t → r ≡ true → y ≡ x → At t ≡ fileAt (partitionOf d s e) l x
   target-file r z u h = rw u at (known r z h)
@@ -167,12 +167,12 @@ pub ruleset targets = (target-odd, target-file, target-none, needs)
 -- what fileAt answers is a file
 pub file-at : (π : Partition) (l : List ℕ) (x t : ℕ) → fileAt π l x ≡ At t → isFile π (view l) t ≡ true
 unfolding fileAt
-file-at π l x t h = go (both (isLda π x b) (isFile π (view l) b)) refl
+file-at π l x t h = go (both (isLda (π .drive) x b) (isFile π (view l) b)) refl
   where
     b : ℕ
     b = ldaBlock (π .drive) x
 
-    go : (u : Bool) → both (isLda π x b) (isFile π (view l) b) ≡ u → isFile π (view l) t ≡ true
+    go : (u : Bool) → both (isLda (π .drive) x b) (isFile π (view l) b) ≡ u → isFile π (view l) t ≡ true
     go true q = let z = rw (q, fileAt) at h in let y : b ≡ t = cc in rw (← y) (both-right _ _ q)
     go false q = let z = rw (q, fileAt) at h in cc
 

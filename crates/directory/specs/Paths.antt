@@ -57,9 +57,9 @@ unfolding find
 find-starts π l sel part f k h = rw (find, ← h) (search-starts-as (hit π l sel part f) 0 (16 * k) (16 * k) (omega arith))
 
 -- an entry that is found lies in the directory
-pub found-below : (π : Partition) (l : List ℕ) (sel : Selection) (part : List ℕ) (f k j : ℕ) → k ≡ len π (view l) f → find π l sel part f ≡ At j → j < 16 * k
+pub found-below : (π : Partition) (l : List ℕ) (sel : Selection) (part : List ℕ) (f j : ℕ) → find π l sel part f ≡ At j → j < 16 * len π (view l) f
 unfolding find
-found-below π l sel part f k j q h = let z = lowest-at (hit π l sel part f) 0 (16 * len π (view l) f) j h in omega arith
+found-below π l sel part f j h = let z = lowest-at (hit π l sel part f) 0 (16 * len π (view l) f) j h in omega arith
 
 -- ---- what a name is in a directory
 

@@ -3,12 +3,12 @@ ghost use mathlib.Core.Path.{_≡_};
 ghost use mathlib.Core.Bool.{true};
 ghost use Prim.Native.Nat.{_+_, _*_, _≤_, _<_};
 ghost use lib.ListN.{length};
-ghost use Rattle.volume.specs.Files.{partitionOf};
+ghost use Rattle.image.specs.Image.{view};
+ghost use Rattle.volume.specs.Files.{partitionOf, len};
 ghost use Rattle.volume.specs.Reads.{Lies};
 ghost use Rattle.inspect.specs.Parts.{Opened};
 ghost use Rattle.directory.specs.Directory.{upper, sameName, hash, isRule, selected, takenAt, isDirectory, fileAt, rootOf, metAt};
 use crate::Met;
-use inspect::index;
 use volume::Found;
 
 // Words of a PIB, of a description and of an entry, and the type of a directory.
@@ -149,24 +149,14 @@ pub fn is_directory(img: &[u8], f: usize) -> bool
     image::word(img, f, FILE_TYPE) == DIRECTORY
 }
 
-// What entry j of directory f is, which has p pointer blocks and k blocks.
-pub fn met(
-    img: &[u8],
-    drive: usize,
-    s: usize,
-    e: usize,
-    rule: &[u8],
-    f: usize,
-    p: usize,
-    k: usize,
-    j: usize,
-) -> Met
-    requires { ⌜ (Opened (partitionOf drive s e) (now img) f p k) × (j < 16 * k) × (isRule (now rule) ≡ true) ⌝ }
+// What entry j of directory f is.
+pub fn met(img: &[u8], drive: usize, s: usize, e: usize, rule: &[u8], f: usize, j: usize) -> Met
+    requires { ⌜ (Opened (partitionOf drive s e) (now img) f) × (j < 16 * len (partitionOf drive s e) (view (now img)) f) × (isRule (now rule) ≡ true) ⌝ }
     ensures { λ m. ⌜ m ≡ metAt (partitionOf drive s e) (now (img .entry)) (selected (now (rule .entry))) f j ⌝ }
 {
     let r = j / 16;
     let i = j % 16;
-    let b = index::name(img, drive, s, e, f, p, k, r);
+    let b = inspect::name(img, drive, s, e, f, r);
     if !taken(img, rule, r, 528 * b + 16 + ENTRY * i) {
         return Met::Skip;
     }

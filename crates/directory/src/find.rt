@@ -8,7 +8,6 @@ ghost use Rattle.volume.specs.Files.{partitionOf};
 ghost use Rattle.inspect.specs.Parts.{Opened};
 ghost use Rattle.directory.specs.Directory.{sameName, isRule, selected, nameAt, takenAt, find};
 use crate::entry;
-use inspect::index;
 use volume::Found;
 
 // Whether the entry at a place of the image, in block r of its directory, is taken and has the name.
@@ -24,7 +23,7 @@ fn has_name(img: &[u8], rule: &[u8], r: usize, at: usize, part: &[u8]) -> bool
     entry::same(&img[from..end], part)
 }
 
-// The first entry with the name of f, which has p pointer blocks and k blocks.
+// The first entry with the name of f.
 pub fn find(
     img: &[u8],
     drive: usize,
@@ -32,15 +31,14 @@ pub fn find(
     e: usize,
     rule: &[u8],
     f: usize,
-    p: usize,
-    k: usize,
     part: &[u8],
 ) -> Found
-    requires { ⌜ (Opened (partitionOf drive s e) (now img) f p k) × (isRule (now rule) ≡ true) ⌝ }
+    requires { ⌜ (Opened (partitionOf drive s e) (now img) f) × (isRule (now rule) ≡ true) ⌝ }
     ensures { λ a. ⌜ a ≡ find (partitionOf drive s e) (now (img .entry)) (selected (now (rule .entry))) (now (part .entry)) f ⌝ }
 {
+    let k = inspect::len(img, drive, s, e, f);
     for r in 0..k {
-        let b = index::name(img, drive, s, e, f, p, k, r);
+        let b = inspect::name(img, drive, s, e, f, r);
         for i in 0..16 {
             if has_name(img, rule, r, 528 * b + 16 + entry::ENTRY * i, part) {
                 return Found::At(16 * r + i);

@@ -11,7 +11,6 @@ use crate::Looked;
 use crate::entry;
 use crate::find;
 use base::Refusal;
-use inspect::index;
 use volume::Found;
 use volume::Outcome;
 
@@ -37,13 +36,11 @@ fn enter(img: &[u8], drive: usize, s: usize, e: usize, rule: &[u8], f: usize, pa
     requires { ⌜ (Lies drive (now img) s e) × (isRule (now rule) ≡ true) × (isFile (partitionOf drive s e) (view (now img)) f ≡ true) ⌝ }
     ensures { λ a. ⌜ a ≡ entered (partitionOf drive s e) (now (img .entry)) (selected (now (rule .entry))) (now (part .entry)) f ⌝ }
 {
-    let k = index::len(img, drive, s, e, f);
-    let p = index::ptrs_for(k);
-    let x = find::find(img, drive, s, e, rule, f, p, k, part);
+    let x = find::find(img, drive, s, e, rule, f, part);
     match x {
         Found::Nothing => Looked::Absent,
         Found::At(j) => {
-            let b = index::name(img, drive, s, e, f, p, k, j / 16);
+            let b = inspect::name(img, drive, s, e, f, j / 16);
             let at = entry::TARGET + 16 * (j % 16);
             let y = entry::file_at(img, drive, s, e, image::pair(img, b, at));
             match y {

@@ -1,8 +1,8 @@
-// The records of destroy. The file f has p pointer blocks and k blocks, the first in link order `top` and the last `last`; h is
-// FreeHead's block and `tail` FreeTail's.
+// The records of destroy. The file f has n blocks in use, the first in link order `top` and the last `last`; h is FreeHead's block and
+// `tail` FreeTail's. `alone`: the first is the FIB; `empty`: the last is.
 ghost use mathlib.Core.Path.{_≡_};
 ghost use mathlib.Core.List.{_∷_, []};
-ghost use Prim.Native.Nat.{_<_, _≤_};
+ghost use Prim.Native.Nat.{_<_};
 ghost use Rattle.drive.specs.Address.{pda};
 ghost use Rattle.image.specs.View.{pair, put2};
 ghost use Rattle.image.specs.Image.{view, recOf};
@@ -37,34 +37,34 @@ fn top_gone(img: &[u8], drive: usize, h: usize, tail: usize, b: usize) -> [u8; 5
     image::with_pair(gone(img, h, b), PREVIOUS, pda_of(drive, tail))
 }
 
-// The FIB, which is the most negative block where p = 0.
-fn fib_save(img: &[u8], drive: usize, h: usize, tail: usize, f: usize, p: usize) -> Save
+// The FIB, which is the first block where `alone`.
+fn fib_save(img: &[u8], drive: usize, h: usize, tail: usize, f: usize, alone: bool) -> Save
     requires { ⌜ (Block (now img) f) × (Block (now img) tail) ⌝ }
-    ensures { λ r. ⌜ StandsFor (now (img .entry)) (st f (fibGone drive (view (now (img .entry))) h tail f p) ∷ []) r ⌝ }
+    ensures { λ r. ⌜ StandsFor (now (img .entry)) (st f (fibGone drive (view (now (img .entry))) h tail f alone) ∷ []) r ⌝ }
 {
-    if p < 1 {
+    if alone {
         return image::saved(f, top_gone(img, drive, h, tail, f));
     }
     image::saved(f, image::with_pair(image::record(img, f), SERIAL, 0))
 }
 
-// The most negative block, if p ≥ 1.
-fn top_save(img: &[u8], drive: usize, h: usize, tail: usize, top: usize, p: usize) -> Save
+// The first block, if it is not the FIB.
+fn top_save(img: &[u8], drive: usize, h: usize, tail: usize, top: usize, alone: bool) -> Save
     requires { ⌜ (Block (now img) top) × (Block (now img) tail) ⌝ }
-    ensures { λ r. ⌜ StandsFor (now (img .entry)) (topGoneStores drive (view (now (img .entry))) h tail top p) r ⌝ }
+    ensures { λ r. ⌜ StandsFor (now (img .entry)) (topGoneStores drive (view (now (img .entry))) h tail top alone) r ⌝ }
 {
-    if p < 1 {
+    if alone {
         return image::none();
     }
     image::saved(top, top_gone(img, drive, h, tail, top))
 }
 
-// The last block, if k ≥ 1.
-fn last_save(img: &[u8], h: usize, last: usize, k: usize) -> Save
+// The last block, if it is not the FIB.
+fn last_save(img: &[u8], h: usize, last: usize, empty: bool) -> Save
     requires { ⌜ Block (now img) last ⌝ }
-    ensures { λ r. ⌜ StandsFor (now (img .entry)) (lastGoneStores 0 (view (now (img .entry))) h last k) r ⌝ }
+    ensures { λ r. ⌜ StandsFor (now (img .entry)) (lastGoneStores 0 (view (now (img .entry))) h last empty) r ⌝ }
 {
-    if k < 1 {
+    if empty {
         return image::none();
     }
     image::saved(last, gone(img, h, last))
@@ -91,28 +91,29 @@ fn pib_more_save(img: &[u8], drive: usize, s: usize, last: usize, n: usize) -> S
     image::saved(s, image::with_pair(x, FREE_TAIL, lda_of(drive, last)))
 }
 
-// The stores of destroy: FIB, most negative block, last block, old free tail, PIB.
+// The stores of destroy: FIB, first block, last block, old free tail, PIB.
 pub fn destroy_store(
     img: &mut [u8],
     drive: usize,
     s: usize,
     f: usize,
-    p: usize,
-    k: usize,
+    alone: bool,
+    empty: bool,
+    n: usize,
     top: usize,
     last: usize,
     tail: usize,
     h: usize,
     limit: usize,
 ) -> usize
-    requires { ⌜ Destroys (now img) s f p k top last tail ⌝ }
-    ensures { λ m. ⌜ Made limit (stores (destroyed drive (view (now (img .entry))) s f p k top last tail h)) (now (img .entry)) (now (img .exit)) m ⌝ }
+    requires { ⌜ Destroys (now img) s f n top last tail ⌝ }
+    ensures { λ m. ⌜ Made limit (stores (destroyed drive (view (now (img .entry))) s f alone empty n top last tail h)) (now (img .entry)) (now (img .exit)) m ⌝ }
 {
-    let fib = fib_save(img, drive, h, tail, f, p);
-    let low = top_save(img, drive, h, tail, top, p);
-    let end = last_save(img, h, last, k);
+    let fib = fib_save(img, drive, h, tail, f, alone);
+    let low = top_save(img, drive, h, tail, top, alone);
+    let end = last_save(img, h, last, empty);
     let joint = tail_save(img, drive, tail, top);
-    let pib = pib_more_save(img, drive, s, last, p + k + 1);
+    let pib = pib_more_save(img, drive, s, last, n);
     let z = image::none();
     image::perform(img, limit, fib, low, end, joint, pib, z, z)
 }

@@ -4,14 +4,12 @@ ghost use mathlib.Core.List.{_++_};
 ghost use Prim.Native.Nat.{_+_, _*_, _≤_};
 ghost use lib.ListN.{length, take, drop};
 ghost use Rattle.image.specs.Image.{view};
-ghost use Rattle.volume.specs.Files.{partitionOf};
+ghost use Rattle.volume.specs.Files.{partitionOf, len};
 ghost use Rattle.volume.specs.Answers.{blockBytes, extractIn, extractInto, extracted};
 ghost use Rattle.volume.specs.Reads.{Lies};
 ghost use Rattle.inspect.specs.Parts.{Opened};
 ghost use Rattle.extract.specs.Into.{extractedInto};
 use base::Refusal;
-use inspect::form;
-use inspect::index;
 use volume::Outcome;
 use volume::Part;
 
@@ -25,21 +23,12 @@ fn put_at(buf: &mut [u8], at: usize, src: &[u8])
 }
 
 // The k blocks of f, one after the other, into the buffer.
-fn copy_blocks(
-    img: &[u8],
-    drive: usize,
-    s: usize,
-    e: usize,
-    f: usize,
-    p: usize,
-    k: usize,
-    buf: &mut [u8],
-)
-    requires { ⌜ (Opened (partitionOf drive s e) (now img) f p k) × (length (now buf) ≡ 512 * k) ⌝ }
+fn copy_blocks(img: &[u8], drive: usize, s: usize, e: usize, f: usize, k: usize, buf: &mut [u8])
+    requires { ⌜ (Opened (partitionOf drive s e) (now img) f) × (k ≡ len (partitionOf drive s e) (view (now img)) f) × (length (now buf) ≡ 512 * k) ⌝ }
     ensures { λ _. ⌜ now (buf .exit) ≡ blockBytes (partitionOf drive s e) (now (img .entry)) f 0 k ⌝ }
 {
     for r in 0..k {
-        let b = index::name(img, drive, s, e, f, p, k, r);
+        let b = inspect::name(img, drive, s, e, f, r);
         let from = 528 * b + 16;
         let end = from + 512;
         put_at(buf, 512 * r, &img[from..end]);
@@ -54,15 +43,14 @@ fn extract_in(img: &[u8], drive: usize, s: usize, e: usize, f: usize, buf: &mut 
     if !inspect::candidate(img, drive, s, e, f) {
         return Outcome::Refused(Refusal::NoCandidate);
     }
-    if !form::well_formed(img, drive, s, e, f) {
+    if !inspect::well_formed(img, drive, s, e, f) {
         return Outcome::Refused(Refusal::Malformed(f));
     }
-    let k = index::len(img, drive, s, e, f);
+    let k = inspect::len(img, drive, s, e, f);
     if buf.len() != 512 * k {
         return Outcome::Refused(Refusal::BadBuffer);
     }
-    let p = index::ptrs_for(k);
-    copy_blocks(img, drive, s, e, f, p, k, buf);
+    copy_blocks(img, drive, s, e, f, k, buf);
     Outcome::Done(k, 0, 0)
 }
 

@@ -1,28 +1,22 @@
 -- The free chain that repair builds is walked as the ascending list of the unowned blocks.
-use mathlib.Core.Path.{_≡_, refl, sym, ap, ap₂, _∙_, subst, fun-ext}
+use mathlib.Core.Path.{_≡_, refl, sym, ap, ap₂, _∙_, fun-ext}
 use mathlib.Core.Logic.{_⊎_, inl, inr, _≢_}
-use mathlib.Core.List.{List, [], _∷_, _++_}
-use mathlib.Core.Bool.{Bool, true, false, not, _&&_, _||_}
-use Prim.Native.Nat.{ℕ, zero, suc, _+_, _-_, _*_, _/_, _%_, _≤_, _<_}
+use mathlib.Core.List.{List, [], _∷_}
+use mathlib.Core.Bool.{Bool, true, false}
+use Prim.Native.Nat.{ℕ, zero, suc, _+_, _-_, _≤_, _<_}
 use native.Mathlib.Omega.{arith}
-use native.Mathlib.Nat.{not-suc-le-zero}
-use lib.Dec.{leb, ltb, eqb}
+use lib.Dec.{eqb}
 use lib.ListN.{length}
-use borrow.Author.Tests.{ltb-true, ltb-false, eqb-true, eqb-false, lt-ltb, le-ltb, eq-eqb, ne-eqb, le-leb}
-use Rattle.base.specs.Tests.{pick, both, every, all, count, those, occ, headOf, lastOf, above, below}
-use Rattle.drive.specs.Address.{pda, pdaBlock, lda, ldaBlock}
+use borrow.Author.Tests.{eqb-true, eqb-false, lt-ltb, le-ltb, eq-eqb, ne-eqb, le-leb}
+use Rattle.base.specs.Tests.{pick, count, those, occ, headOf, lastOf, above, below}
+use Rattle.drive.specs.Address.{pda, pdaBlock}
 use Rattle.drive.specs.Laws.{pda-back, pda-pos}
-use Rattle.image.specs.View.{upd-same, upd-other, View, Rec, pair}
-use Rattle.base.specs.Laws.{pick-same, both-of}
+use Rattle.image.specs.View.{View, pair}
+use Rattle.base.specs.Laws.{both-of}
 use Rattle.volume.specs.Words.{nextAt, previousAt}
-use Rattle.volume.specs.Files.{Partition, isLda, blockAt, ptrIndex, ptrSlot, chain, chained, orNil, within, inside}
+use Rattle.volume.specs.Files.{Partition, chain, chained, orNil, within, inside}
 
 module _ (P : ℕ → Bool) where
-  -- the list begins with i, or goes on
-  those-step : (i k : ℕ) (t : Bool) → P i ≡ t → those i (suc k) P ≡ pick t (i ∷ those (suc i) k P) (those (suc i) k P)
-  unfolding those
-  those-step i k t q = ap (λ (u : Bool). pick u (i ∷ those (suc i) k P) (those (suc i) k P)) q
-
   above-all : (b i k : ℕ) → b < i → above b (those i k P) ≡ headOf 0 (those i k P)
   unfolding above headOf those
   above-all b i zero h = refl

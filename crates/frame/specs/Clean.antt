@@ -7,7 +7,7 @@ use Rattle.base.specs.Tests.{both}
 use Rattle.image.specs.View.{View}
 use Rattle.volume.specs.Files.{Partition, candidate, isMalformed}
 use Rattle.volume.specs.Answers.{lowest, lowestMalformed, Unmarred}
-use Rattle.volume.specs.Agree.{Clean}
+use Rattle.volume.specs.Frame.{Clean}
 use Rattle.volume.specs.declared.Found.the-variants.{Nothing}
 
 none-lowest : (p : ℕ → Bool) (n a : ℕ) → ((x : ℕ) → a ≤ x → x < a + n → p x ≡ false) → lowest p a n ≡ Nothing

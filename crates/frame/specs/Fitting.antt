@@ -12,8 +12,9 @@ use Rattle.image.specs.View.{Rec, put, put2, blank}
 use Rattle.image.specs.Saves.{withData, withText, words}
 use Rattle.image.specs.Image.{view, Bytes}
 use Rattle.image.specs.Stores.{Fits}
-use Rattle.volume.specs.Files.{ptrsFor}
-use Rattle.volume.specs.Plans.{trimmed, put2If}
+use Rattle.volume.specs.Keys.{child, first}
+use Rattle.volume.specs.Plans.{trimmed}
+use Rattle.volume.specs.Writes.{put2If}
 
 pub put-fits : (i x : ℕ) {r : Rec} → i < 264 → x < 65536 → Fits r → Fits (put i x r)
 unfolding put
@@ -78,9 +79,9 @@ text-fits {n} {dat} {r} d h = record { small = λ w. low w (both (leb 8 w) (ltb 
     high : (w : ℕ) → 264 ≤ w → pick (both (leb 8 w) (ltb w 60)) (dat (w - 8)) (r w) ≡ 0
     high w k = ap₂ (λ (t u : Bool). pick (both t u) (dat (w - 8)) (r w)) (le-leb 8 w (omega arith)) (le-ltb w 60 (omega arith)) ∙ h .ends w k
 
-pub trimmed-fits : (k : ℕ) {r : Rec} → Fits r → Fits (trimmed k r)
+pub trimmed-fits : (n k : ℕ) {r : Rec} → Fits r → Fits (trimmed n k r)
 unfolding trimmed
-trimmed-fits k {r} h = record { small = λ w. low w (both (leb 8 w) (leb k (64 + 128 * (ptrsFor k - 1) + (w - 8) / 2))); ends = λ w l. high w (both (leb 8 w) (leb k (64 + 128 * (ptrsFor k - 1) + (w - 8) / 2))) l }
+trimmed-fits n k {r} h = record { small = λ w. low w (both (leb 8 w) (leb n (first (child k w)))); ends = λ w l. high w (both (leb 8 w) (leb n (first (child k w)))) l }
   where
     low : (w : ℕ) (t : Bool) → pick t 0 (r w) < 65536
     low w true = omega arith

@@ -1,10 +1,16 @@
 pub mod Soft
 pub mod Chain
-pub mod Sound
 pub mod Turn
 pub mod Repair
+pub mod Sound
 pub mod Restart
 pub mod Mended
 pub mod Fitting
 pub mod Clean
 pub mod Needed
+pub mod Reading
+pub mod FreeChain
+pub mod Taking
+pub mod Drawn
+pub mod Listed
+pub mod Decides

@@ -1,30 +1,30 @@
 -- Repair of a clean view with an unowned block leaves a sound one.
-use mathlib.Core.Path.{_≡_, refl, sym, ap, ap₂, _∙_, subst, fun-ext}
-use mathlib.Core.Logic.{_⊎_, inl, inr, _≢_}
-use mathlib.Core.List.{List, [], _∷_, _++_}
-use mathlib.Core.Bool.{Bool, true, false, not, _&&_, _||_, true≢false}
-use Prim.Native.Nat.{ℕ, zero, suc, _+_, _-_, _*_, _/_, _%_, _≤_, _<_}
+use mathlib.Core.Path.{_≡_, refl, sym, ap, ap₂, _∙_, subst}
+use mathlib.Core.Logic.{_≢_}
+use mathlib.Core.List.{List, [], _∷_}
+use mathlib.Core.Bool.{Bool, true, false, not, _||_}
+use Prim.Native.Nat.{ℕ, suc, _+_, _-_, _*_, _/_, _%_, _≤_, _<_}
 use native.Mathlib.Omega.{arith}
-use lib.Dec.{leb, ltb, eqb}
-use lib.ListN.{take, length, getD}
-use borrow.Author.Tests.{ltb-true, ltb-false, eqb-true, eqb-false, lt-ltb, le-ltb, eq-eqb, ne-eqb, le-leb, lt-leb, leb-true}
-use Rattle.base.specs.Tests.{pick, both, every, all, count, those, tabFrom, headOf, lastOf, above, below, occ}
-use Rattle.drive.specs.Address.{pda, pdaBlock, lda, ldaBlock}
-use Rattle.drive.specs.Laws.{pda-back, lda-back, pda-pos}
-use Rattle.image.specs.View.{upd-same, upd-other, View, Rec, Store, after, upd, pair, put, put2}
-use Rattle.base.specs.Laws.{cons-same, and-left, and-right, and-both, all-at, all-of, all-same, pick-same, every-at, both-left, both-right, both-of, iff-eq}
-use Rattle.volume.specs.Files.{unowned, Partition, isLda, blockAt, ptrIndex, ptrSlot, inside, serial, candidate, len, ptrsFor, ptrs, indirect, ptr, entry, name, names, nth, size, wellFormed, isFile, placeOf, place, fileOf, owned, files, nextOf, prevOf, orNil, free, freeHead, chain, chained, linked, sound, freeSound, within}
-use Rattle.volume.specs.Frame.{SameHead, same-serial, head-of, head-trans, Shape, Kept, kept-len, kept-ptrs, kept-ptr, kept-indirect, kept-entry, kept-nth, kept-size, kept-name, kept-head, kept-wellFormed}
-use Rattle.volume.specs.Owned.{Own, own, owned-by, member, member-owned, file-back, place-back, few-ptrs, Member, nth-fib, nth-ptr, nth-data, ptr-in, fib-in, data-in, owned-in, owned-not-pib}
-use Rattle.volume.specs.Agree.{Clean, Alike, Agree, alike, agree-file, agree-files, agree-clean, agree-owned, agree-unowned, agree-place, agree-fileOf, agree-head}
-use lib.Seq.{take-length}
 use native.Mathlib.Nat.{le-refl}
-use Rattle.volume.specs.Words.{nextAt, previousAt, slotAt}
-use Rattle.volume.specs.Plans.{trimmed, repairStores, repairedPib, st, freshFib, newFirst, pibLess, content, relinked, freed, repaired}
-use Rattle.frame.specs.Soft.{headed, headed-is, headed-same, headed-rel, headed-zero, cand-in, cand-rel, cand-serial, spare, Soft, Quiet, soft-refl, soft-links, spare-at, ptr-of, soft-kept, soft-agree}
-use Rattle.frame.specs.Repair.{links-off, Mid, mid-agree, repaired-mine, repaired-free, content-cut}
-use Rattle.frame.specs.Restart.{Part, start, again, target, target-else, target-pib, repair-of, after-val, hits, hits-repair, hits-tab-in, hits-pib, next-same, prev-same, finish}
-use Rattle.frame.specs.Chain.{walk, Next, Prev, above-those, below-those, chained-those, within-those, occ-in, head-zero, head-least, head-most}
+use lib.Dec.{leb, eqb}
+use lib.ListN.{length}
+use lib.Seq.{take-length}
+use borrow.Author.Tests.{ltb-true, ltb-false, lt-ltb, eq-eqb, le-leb, leb-true, leb-false}
+use Rattle.base.specs.Tests.{pick, both, every, all, headOf, lastOf, occ}
+use Rattle.base.specs.Tests as tests
+use Rattle.base.specs.Laws.{cons-same, all-of, both-left, both-right, both-of}
+use Rattle.drive.specs.Address.{ldaBlock}
+use Rattle.image.specs.View.{View, Rec, Store, after, pair, put, put2}
+use Rattle.volume.specs.Words.{nextAt, previousAt}
+use Rattle.volume.specs.Keys.{home, child, first}
+use Rattle.volume.specs.KeyLaws.{child-pair}
+use Rattle.volume.specs.Files.{Partition, isLda, inside, within, candidate, len, spot, present, wellFormed, fileOf, key, owned, unowned, above, below, link, tailTest, linkTest, linked, orNil, free, freeHead, chain, chained, sound, freeSound}
+use Rattle.volume.specs.Index.{file-back, key-back, member-owned, owned-in, span-of, unless-of, or-of}
+use Rattle.volume.specs.Frame.{Shape, Clean, Formed, formed, Agree, kept-len, agree-clean, agree-owned, agree-fileOf, agree-key}
+use Rattle.volume.specs.Plans.{trimmed, shaped, content, relinked, freed, repaired, repairedPib, repairStores}
+use Rattle.frame.specs.Repair.{lda-block, address-names, links-off, mid-agree, repaired-mine, repaired-free}
+use Rattle.frame.specs.Restart.{Part, start, again, target, target-else, target-pib, repair-of, after-val, hits-tab-in, hits-pib, next-same, prev-same}
+use Rattle.frame.specs.Chain.{walk, Next, Prev, above-those, below-those, chained-those, within-those, occ-in}
 
 word : (x : ℕ) → x % 65536 + 65536 * (x / 65536) ≡ x
 word x = omega arith
@@ -39,8 +39,8 @@ module _ (π : Partition) (v : View) (c : Clean π v) where
   pub mended-agree : Agree π v (after (repairStores π v) v)
   mended-agree = mid-agree π v c mended (part .blocks)
 
-  agree : Alike π v mended
-  agree = alike π mended-agree
+  agree : Formed π v mended
+  agree = formed π mended-agree
 
   mended-at : (b : ℕ) → (π .s) < b → b ≤ (π .e) → mended b ≡ repaired π v (unowned π v) b
   mended-at b l m =
@@ -57,21 +57,21 @@ module _ (π : Partition) (v : View) (c : Clean π v) where
   P : ℕ → Bool
   P b = not (owned π v b)
 
-  free-next : (b : ℕ) → (π .s) < b → b ≤ (π .e) → P b ≡ true → pair mended b nextAt ≡ orNil π (above b (unowned π v))
+  free-next : (b : ℕ) → (π .s) < b → b ≤ (π .e) → P b ≡ true → pair mended b nextAt ≡ orNil π (tests.above b (unowned π v))
   unfolding freed P put put2
   free-next b l m q =
       ap (λ (r : Rec). r 4 + 65536 * r 5) (mended-at b l m ∙ repaired-free π v (unowned π v) b (off (owned π v b) q))
-      ∙ word (orNil π (above b (unowned π v)))
+      ∙ word (orNil π (tests.above b (unowned π v)))
     where
       off : (t : Bool) → not t ≡ true → t ≡ false
       off true z = sym z
       off false z = refl
 
-  free-prev : (b : ℕ) → (π .s) < b → b ≤ (π .e) → P b ≡ true → pair mended b previousAt ≡ orNil π (below b (unowned π v))
+  free-prev : (b : ℕ) → (π .s) < b → b ≤ (π .e) → P b ≡ true → pair mended b previousAt ≡ orNil π (tests.below b (unowned π v))
   unfolding freed P put put2
   free-prev b l m q =
       ap (λ (r : Rec). r 6 + 65536 * r 7) (mended-at b l m ∙ repaired-free π v (unowned π v) b (off (owned π v b) q))
-      ∙ word (orNil π (below b (unowned π v)))
+      ∙ word (orNil π (tests.below b (unowned π v)))
     where
       off : (t : Bool) → not t ≡ true → t ≡ false
       off true z = sym z
@@ -89,8 +89,8 @@ module _ (π : Partition) (v : View) (c : Clean π v) where
     where
       head : freeHead π mended ≡ headOf 0 (unowned π v)
       head =
-          ap (λ (r : Rec). (ldaBlock (π .drive)) (r 8 + 65536 * r 9)) mended-pib ∙ ap (ldaBlock (π .drive)) (word (lda (π .drive) (headOf 0 (unowned π v))))
-          ∙ lda-back (π .drive) (headOf 0 (unowned π v))
+          ap (λ (r : Rec). (ldaBlock (π .drive)) (r 8 + 65536 * r 9)) mended-pib ∙ ap (ldaBlock (π .drive)) (word _)
+          ∙ lda-block π _ _ (address-names π _ (headOf 0 (unowned π v)))
 
   clean : Clean π mended
   clean = agree-clean π v mended c agree
@@ -98,77 +98,70 @@ module _ (π : Partition) (v : View) (c : Clean π v) where
   -- ---- the files are linked
 
   module _ (f : ℕ) (cf : candidate π mended f ≡ true) where
-    module _ (i : ℕ) (l : i < size π mended f) where
-      b : ℕ
-      b = nth π mended f i
-
-      ob : owned π v (nth π mended f i) ≡ true
-      ob = agree-owned π v mended c agree _ ∙ member-owned π mended f cf (clean f cf) i l
-
-      rec-is : mended (nth π mended f i) ≡ relinked π v (nth π mended f i)
-      unfolding inside
-      rec-is =
-          let n = owned-in π v (nth π mended f i) ob in
-          mended-at _ (ltb-true _ _ (both-left _ _ n)) (leb-true _ _ (both-right _ _ n)) ∙ repaired-mine π v _ _ ob
-
-      link-next : pair mended (nth π mended f i) nextAt ≡ nextOf π mended f i
-      unfolding relinked put put2
-      link-next =
-          ap (λ (r : Rec). r 4 + 65536 * r 5) rec-is ∙ word _
-          ∙ next-same π v c mended (part .blocks) (nth π mended f i) ob
-          ∙ ap₂ (λ (g j : ℕ). nextOf π mended g j) (file-back π mended f cf (clean f cf) i l) (place-back π mended f cf (clean f cf) i l)
-
-      link-prev : pair mended (nth π mended f i) previousAt ≡ prevOf π mended f i
-      unfolding relinked put put2
-      link-prev =
-          ap (λ (r : Rec). r 6 + 65536 * r 7) rec-is ∙ word _
-          ∙ prev-same π v c mended (part .blocks) (nth π mended f i) ob
-          ∙ ap₂ (λ (g j : ℕ). prevOf π mended g j) (file-back π mended f cf (clean f cf) i l) (place-back π mended f cf (clean f cf) i l)
-
     kf : Shape π v mended f
     kf = agree .shape f (agree .cands f ∙ cf)
 
-    zero-word : (w : ℕ) → 8 ≤ w → 0 < ptrs π mended f → len π mended f ≤ 64 + 128 * (ptrs π mended f - 1) + (w - 8) / 2
-        → mended (ptr π mended f (ptrs π mended f - 1)) w ≡ 0
-    unfolding relinked ptrs put put2
-    zero-word w l p h =
-        ap (λ (x : ℕ). mended x w) (sym top)
-        ∙ ap (λ (r : Rec). r w) (rec-is 0 here) ∙ links-off _ _ (content π v (nth π mended f 0)) w l
-        ∙ content-cut π v (nth π mended f 0) w pl (subst (λ (x : ℕ). 0 < ptrs π v x) (sym fl) (omega (arith, kept-ptrs π v mended f kf))) l
-        (subst (λ (x : ℕ). len π v x ≤ 64 + 128 * (ptrsFor (len π v x) - 1) + (w - 8) / 2) (sym fl)
-        (subst (λ (x : ℕ). x ≤ 64 + 128 * (ptrsFor x - 1) + (w - 8) / 2) (sym (kept-len π v mended f kf)) h))
-      where
-        here : 0 < size π mended f
-        here = subst (λ (x : ℕ). x < size π mended f) (let z : ptrs π mended f - suc (ptrs π mended f - 1) ≡ 0 = omega (arith, p) in z) (ptr-in π mended f (ptrs π mended f - 1) (omega (arith, p)))
+    module _ (k : ℕ) (p : present π mended f k ≡ true) where
+      ob : owned π v (spot π mended f k) ≡ true
+      ob = agree-owned π v mended c agree _ ∙ member-owned π mended f cf (clean f cf) k p
 
-        top : nth π mended f 0 ≡ ptr π mended f (ptrs π mended f - 1)
-        top = ap (nth π mended f) (let z : 0 ≡ ptrs π mended f - suc (ptrs π mended f - 1) = omega (arith, p) in z) ∙ nth-ptr π mended f (ptrs π mended f - 1) (omega (arith, p))
+      of : fileOf π v (spot π mended f k) ≡ f
+      of = agree-fileOf π v mended c agree _ ob ∙ file-back π mended f cf (clean f cf) k p
 
-        pl : place π v (nth π mended f 0) ≡ 0
-        pl = agree-place π v mended c agree _ (ob 0 here) ∙ place-back π mended f cf (clean f cf) 0 here
+      at-key : key π v (spot π mended f k) ≡ k
+      at-key = agree-key π v mended c agree _ ob ∙ key-back π mended f cf (clean f cf) k p
 
-        fl : fileOf π v (nth π mended f 0) ≡ f
-        fl = agree-fileOf π v mended c agree _ (ob 0 here) ∙ file-back π mended f cf (clean f cf) 0 here
+      rec-is : mended (spot π mended f k) ≡ relinked π v (spot π mended f k)
+      unfolding inside
+      rec-is =
+          let n = owned-in π v (spot π mended f k) ob in
+          mended-at _ (ltb-true _ _ (both-left _ _ n)) (leb-true _ _ (both-right _ _ n)) ∙ repaired-mine π v _ _ ob
+
+      link-next : pair mended (spot π mended f k) nextAt ≡ link π mended f (above π mended f k)
+      unfolding relinked put put2
+      link-next =
+          ap (λ (r : Rec). r 4 + 65536 * r 5) rec-is ∙ word _
+          ∙ next-same π v c mended (part .blocks) (spot π mended f k) ob
+          ∙ ap₂ (λ (g j : ℕ). link π mended g (above π mended g j)) (file-back π mended f cf (clean f cf) k p) (key-back π mended f cf (clean f cf) k p)
+
+      link-prev : pair mended (spot π mended f k) previousAt ≡ link π mended f (below π mended f k)
+      unfolding relinked put put2
+      link-prev =
+          ap (λ (r : Rec). r 6 + 65536 * r 7) rec-is ∙ word _
+          ∙ prev-same π v c mended (part .blocks) (spot π mended f k) ob
+          ∙ ap₂ (λ (g j : ℕ). link π mended g (below π mended g j)) (file-back π mended f cf (clean f cf) k p) (key-back π mended f cf (clean f cf) k p)
+
+      -- a word of the data, of the file f and the key k
+      words : (w : ℕ) → 8 ≤ w → mended (spot π mended f k) w ≡ shaped (len π v f) k (v (spot π mended f k)) w
+      unfolding relinked content
+      words w l =
+          ap (λ (r : Rec). r w) rec-is ∙ links-off _ _ (content π v (spot π mended f k)) w (λ z. omega arith) (λ z. omega arith) (λ z. omega arith) (λ z. omega arith)
+          ∙ ap₂ (λ (g j : ℕ). shaped (len π v g) j (v (spot π mended f k)) w) of at-key
+
+      zero-word : k < home → (w : ℕ) → 8 ≤ w → len π mended f ≤ first (child k w) → mended (spot π mended f k) w ≡ 0
+      unfolding shaped trimmed
+      zero-word l w g h =
+          words w g
+          ∙ ap (λ (u : Bool). pick u (trimmed (len π v f) k (v (spot π mended f k))) (v (spot π mended f k)) w) (lt-ltb k home l)
+          ∙ ap (λ (t : Bool). pick t 0 (v (spot π mended f k) w)) (both-of (le-leb 8 w g) (le-leb _ _ (subst (λ (x : ℕ). x ≤ first (child k w)) (sym (kept-len π v mended f kf)) h)))
+
+      tail-at : k < home → (i : ℕ) → i < 128 → tailTest π mended f k i ≡ true
+      tail-at l i m = or-of _ _ (λ q.
+          let h = ltb-false _ _ q in
+          eq-eqb _ _ (ap₂ (λ (x y : ℕ). x + 65536 * y) (zero-word l (8 + 2 * i) (omega arith) h)
+          (zero-word l (8 + 2 * i + 1) (omega arith) (subst (λ (j : ℕ). len π mended f ≤ first j) (child-pair k (8 + 2 * i) (8 + 2 * i + 1) l (omega arith)) h))))
+
+      link-at : every (eqb (pair mended (spot π mended f k) nextAt) (link π mended f (above π mended f k))
+          ∷ eqb (pair mended (spot π mended f k) previousAt) (link π mended f (below π mended f k))
+          ∷ (leb home k || all 128 (tailTest π mended f k))
+          ∷ []) ≡ true
+      unfolding every
+      link-at = ap every (cons-same (eq-eqb _ _ link-next) (cons-same (eq-eqb _ _ link-prev)
+          (cons-same {l = []} (or-of _ _ (λ q. all-of 128 _ (λ i m. tail-at (leb-false home k q) i m))) refl)))
 
     linked-is : linked π mended f ≡ true
     unfolding linked
-    linked-is = both-of
-        (all-of (size π mended f) _ (λ i l. both-of (eq-eqb _ _ (link-next i l)) (eq-eqb _ _ (link-prev i l))))
-        (go (eqb (ptrs π mended f) 0) refl)
-      where
-        last : ℕ
-        last = ptr π mended f (ptrs π mended f - 1)
-
-        one : (i : ℕ) → 0 < ptrs π mended f → (t : Bool) → ltb (64 + 128 * (ptrs π mended f - 1) + i) (len π mended f) ≡ t → (t || eqb (pair mended last (slotAt i)) 0) ≡ true
-        one i p true q = refl
-        one i p false q =
-            let m = ltb-false (64 + 128 * (ptrs π mended f - 1) + i) (len π mended f) q in
-            eq-eqb _ _ (ap₂ (λ (x y : ℕ). x + 65536 * y) (zero-word (8 + 2 * i) (omega arith) p (omega arith)) (zero-word (8 + 2 * i + 1) (omega arith) p (omega arith)))
-
-        go : (t : Bool) → eqb (ptrs π mended f) 0 ≡ t
-            → (t || all 128 (λ i. ltb (64 + 128 * (ptrs π mended f - 1) + i) (len π mended f) || eqb (pair mended last (slotAt i)) 0)) ≡ true
-        go true q = refl
-        go false q = all-of 128 _ (λ i l. one i (omega (arith, eqb-false (ptrs π mended f) 0 q)) _ refl)
+    linked-is = span-of (len π mended f) (linkTest π mended f) (λ k l m. unless-of _ _ (λ p. link-at k p))
 
   -- ---- the free chain
 
@@ -216,8 +209,8 @@ module _ (π : Partition) (v : View) (c : Clean π v) where
         (cons-same (all-of ((π .e) - (π .s)) _ (λ i l. eq-eqb _ _ (once i l)))
         (cons-same in-it
         (cons-same both-ways
-        (cons-same (eq-eqb _ _ (ap (λ (r : Rec). r 8 + 65536 * r 9) mended-pib ∙ word _ ∙ ap (λ (l : List ℕ). lda (π .drive) (headOf 0 l)) (sym free-eq)))
-        (cons-same (eq-eqb _ _ (ap (λ (r : Rec). r 10 + 65536 * r 11) mended-pib ∙ word _ ∙ ap (λ (l : List ℕ). lda (π .drive) (lastOf 0 l)) (sym free-eq)))
+        (cons-same (ap₂ (isLda (π .drive)) (ap (λ (r : Rec). r 8 + 65536 * r 9) mended-pib ∙ word _) (ap (headOf 0) free-eq) ∙ address-names π _ _)
+        (cons-same (ap₂ (isLda (π .drive)) (ap (λ (r : Rec). r 10 + 65536 * r 11) mended-pib ∙ word _) (ap (lastOf 0) free-eq) ∙ address-names π _ _)
         (cons-same (eq-eqb _ _ (ap (λ (r : Rec). r 12 + 65536 * r 13) mended-pib ∙ word _ ∙ ap length (sym free-eq)))
         (cons-same {l = []} (lt-ltb _ _ (subst (λ (l : List ℕ). 0 < length l) (sym free-eq) (some _ n))) refl)))))))
 

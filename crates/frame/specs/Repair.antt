@@ -1,65 +1,100 @@
 -- A view some of whose blocks are repaired already has the same files, the same owned blocks, and the same repair.
-use mathlib.Core.Path.{_≡_, refl, sym, ap, ap₂, _∙_, subst, fun-ext}
+use mathlib.Core.Path.{_≡_, refl, sym, ap, _∙_}
 use mathlib.Core.Logic.{_⊎_, inl, inr, _≢_}
-use mathlib.Core.List.{List, [], _∷_, _++_}
-use mathlib.Core.Bool.{Bool, true, false, not, _&&_, _||_, true≢false}
-use Prim.Native.Nat.{ℕ, zero, suc, _+_, _-_, _*_, _/_, _%_, _≤_, _<_}
+use mathlib.Core.List.{List}
+use mathlib.Core.Bool.{Bool, true, false}
+use Prim.Native.Nat.{ℕ, _+_, _-_, _*_, _/_, _%_, _<_}
 use native.Mathlib.Omega.{arith}
 use lib.Dec.{leb, ltb, eqb}
-use lib.ListN.{take, length, getD}
-use borrow.Author.Tests.{ltb-true, ltb-false, eqb-true, eqb-false, lt-ltb, le-ltb, eq-eqb, ne-eqb, le-leb, lt-leb, leb-true}
-use Rattle.base.specs.Tests.{pick, both, every, all, count, those, tabFrom, headOf, lastOf, above, below, occ}
-use Rattle.drive.specs.Address.{pda, pdaBlock, lda, ldaBlock}
-use Rattle.drive.specs.Laws.{pda-back, lda-back, pda-pos}
-use Rattle.image.specs.View.{upd-same, upd-other, View, Rec, Store, after, upd, pair, put, put2}
-use Rattle.base.specs.Laws.{cons-same, and-left, and-right, and-both, all-at, all-of, all-same, pick-same, every-at, both-left, both-right, both-of, iff-eq}
+use borrow.Author.Tests.{ltb-true, eqb-true, eq-eqb, ne-eqb, lt-leb}
+use Rattle.base.specs.Tests.{pick, both}
+use Rattle.drive.specs.Address.{lda, ldaBlock}
+use Rattle.drive.specs.Laws.{lda-back}
+use Rattle.image.specs.View.{View, Rec, put, put2}
+use Rattle.base.specs.Laws.{both-left}
 use Rattle.volume.specs.Words.{nextAt, previousAt}
-use Rattle.volume.specs.Files.{unowned, Partition, isLda, blockAt, ptrIndex, ptrSlot, inside, serial, candidate, len, ptrsFor, ptrs, indirect, ptr, entry, name, names, nth, size, wellFormed, isFile, placeOf, place, fileOf, owned, files, nextOf, prevOf, orNil, free, freeHead, chain, chained, linked, sound, within}
-use Rattle.volume.specs.Frame.{SameHead, same-serial, head-of, head-trans, Shape, Kept, kept-len, kept-ptrs, kept-ptr, kept-indirect, kept-entry, kept-nth, kept-size, kept-name, kept-head, kept-wellFormed}
-use Rattle.volume.specs.Owned.{Own, own, owned-by, member, member-owned, file-back, place-back, few-ptrs, Member, nth-fib, nth-ptr, nth-data, ptr-in, fib-in, data-in, owned-in, owned-not-pib}
-use Rattle.volume.specs.Agree.{Clean, Alike, Agree, alike, agree-file, agree-files, agree-clean, agree-owned, agree-unowned, agree-place, agree-fileOf, agree-head}
-use Rattle.volume.specs.Plans.{trimmed, repairStores, repairedPib, st, freshFib, newFirst, pibLess, content, relinked, freed, repaired}
-use Rattle.frame.specs.Soft.{headed, headed-is, headed-same, headed-rel, headed-zero, cand-in, cand-rel, cand-serial, spare, Soft, Quiet, soft-refl, soft-links, spare-at, ptr-of, soft-kept, soft-agree}
+use Rattle.volume.specs.Keys.{home, child, first, low}
+use Rattle.volume.specs.Files.{Partition, inside, isLda, address, owned, unowned}
+use Rattle.volume.specs.Index.{owned-not-pib}
+use Rattle.volume.specs.Frame.{Clean, Agree}
+use Rattle.frame.specs.Soft.{headed, headed-zero, both-no, tallyWord, spare, Soft, Quiet, soft-refl, soft-agree}
+use Rattle.volume.specs.Plans.{trimmed, shaped, content, relinked, freed, repaired}
 
-pub trimmed-low : (k : ℕ) (r : Rec) (w : ℕ) → w < 8 → trimmed k r w ≡ r w
-unfolding trimmed both
-trimmed-low k r w h = ap (λ (t : Bool). pick (both t (leb k (64 + 128 * (ptrsFor k - 1) + (w - 8) / 2))) 0 (r w)) (lt-leb 8 w h)
+-- ---- addresses that are written
 
-pub links-off : (x y : ℕ) (r : Rec) (w : ℕ) → 8 ≤ w → put2 nextAt x (put2 previousAt y r) w ≡ r w
+pub lda-self : (π : Partition) (b : ℕ) → isLda (π .drive) (lda (π .drive) b) b ≡ true
+unfolding isLda
+lda-self π b = eq-eqb (lda (π .drive) b) (lda (π .drive) b) refl
+
+-- what decodes to b is decoded as b
+pub lda-block : (π : Partition) (x b : ℕ) → isLda (π .drive) x b ≡ true → ldaBlock (π .drive) x ≡ b
+unfolding isLda
+lda-block π x b h = ap (ldaBlock (π .drive)) (eqb-true _ _ h) ∙ lda-back (π .drive) b
+
+pub address-names : (π : Partition) (o b : ℕ) → isLda (π .drive) (address (π .drive) o b) b ≡ true
+unfolding address
+address-names π o b = go (isLda (π .drive) o b) refl
+  where
+    go : (t : Bool) → isLda (π .drive) o b ≡ t → isLda (π .drive) (pick t o (lda (π .drive) b)) b ≡ true
+    go true q = q
+    go false q = lda-self π b
+
+address-kept : (π : Partition) (x b : ℕ) → isLda (π .drive) x b ≡ true → address (π .drive) x b ≡ x
+unfolding address
+address-kept π x b q = ap (λ (t : Bool). pick t x (lda (π .drive) b)) q
+
+pub address-twice : (π : Partition) (o b : ℕ) → address (π .drive) (address (π .drive) o b) b ≡ address (π .drive) o b
+address-twice π o b = address-kept π (address (π .drive) o b) b (address-names π o b)
+
+-- ---- what repair leaves
+
+word : (x : ℕ) → x % 65536 + 65536 * (x / 65536) ≡ x
+word x = omega arith
+
+pub links-off : (x y : ℕ) (r : Rec) (w : ℕ) → w ≢ 4 → w ≢ 5 → w ≢ 6 → w ≢ 7 → put2 nextAt x (put2 previousAt y r) w ≡ r w
 unfolding put put2
-links-off x y r w h = simp (ne-eqb w 4 (λ p. omega arith), ne-eqb w 5 (λ p. omega arith), ne-eqb w 6 (λ p. omega arith), ne-eqb w 7 (λ p. omega arith))
+links-off x y r w n4 n5 n6 n7 = simp (ne-eqb w 4 n4, ne-eqb w 5 n5, ne-eqb w 6 n6, ne-eqb w 7 n7)
+
+module _ (n k : ℕ) where
+  trimmed-off : (r : Rec) (w : ℕ) → both (leb 8 w) (leb n (first (child k w))) ≡ false → trimmed n k r w ≡ r w
+  unfolding trimmed
+  trimmed-off r w h = ap (λ (t : Bool). pick t 0 (r w)) h
+
+  -- a word that is not spare is kept
+  pub shaped-keeps : (r : Rec) (w : ℕ) → (w < 8) ⊎ (pick (eqb k home) (tallyWord w) (both (ltb k home) (leb n (first (child k w)))) ≡ false) → shaped n k r w ≡ r w
+  unfolding shaped both
+  shaped-keeps r w h = go (eqb k home) refl (ltb k home) refl h
+    where
+      go : (t : Bool) → eqb k home ≡ t → (u : Bool) → ltb k home ≡ u → (w < 8) ⊎ (pick t (tallyWord w) (both u (leb n (first (child k w)))) ≡ false)
+          → pick u (trimmed n k r) r w ≡ r w
+      go true q true z h = absurd (omega (arith, eqb-true k home q, ltb-true k home z))
+      go false q true z (inl l) = trimmed-off r w (ap (λ (x : Bool). both x (leb n (first (child k w)))) (lt-leb 8 w l))
+      go false q true z (inr l) = trimmed-off r w (both-no (leb 8 w) (leb n (first (child k w))) l)
+      go t q false z h = refl
+
+  -- done twice it is done once
+  abbrev Over : Rec → Rec → Type 0
+  Over r r′ = (w : ℕ) → w ≢ 4 → w ≢ 5 → w ≢ 6 → w ≢ 7 → r′ w ≡ r w
+
+  trimmed-twice : (r r′ : Rec) (w : ℕ) → r′ w ≡ trimmed n k r w → trimmed n k r w ≡ trimmed n k r′ w
+  unfolding trimmed
+  trimmed-twice r r′ w q = go (both (leb 8 w) (leb n (first (child k w)))) q
+    where
+      go : (t : Bool) → r′ w ≡ pick t 0 (r w) → pick t 0 (r w) ≡ pick t 0 (r′ w)
+      go true q = refl
+      go false q = sym q
+
+  pub shaped-twice : (r r′ : Rec) → Over (shaped n k r) r′ → (w : ℕ) → w ≢ 4 → w ≢ 5 → w ≢ 6 → w ≢ 7 → shaped n k r w ≡ shaped n k r′ w
+  unfolding shaped
+  shaped-twice r r′ h w n4 n5 n6 n7 = go (ltb k home) h
+    where
+      go : (u : Bool) → Over (pick u (trimmed n k r) r) r′ → pick u (trimmed n k r) r w ≡ pick u (trimmed n k r′) r′ w
+      go true h = trimmed-twice r r′ w (h w n4 n5 n6 n7)
+      go false h = sym (h w n4 n5 n6 n7)
+
+-- ---- block by block: as it was, or repaired
 
 module _ (π : Partition) (v : View) where
-  content-low : (b w : ℕ) → w < 8 → content π v b w ≡ v b w
-  unfolding content
-  content-low b w h = go (both (eqb (place π v b) 0) (ltb 0 (ptrs π v (fileOf π v b))))
-    where
-      go : (t : Bool) → pick t (trimmed (len π v (fileOf π v b)) (v b)) (v b) w ≡ v b w
-      go true = trimmed-low _ (v b) w h
-      go false = refl
-
-  content-used : (b w : ℕ) → spare π v b w ≡ false → content π v b w ≡ v b w
-  unfolding content spare trimmed ptrs both
-  content-used b w h = go (both (eqb (place π v b) 0) (ltb 0 (ptrs π v (fileOf π v b)))) h
-    where
-      k : ℕ
-      k = len π v (fileOf π v b)
-
-      low : (x y : Bool) → y ≡ false → pick (both x y) 0 (v b w) ≡ v b w
-      low true y q = ap (λ (z : Bool). pick z 0 (v b w)) q
-      low false y q = refl
-
-      go : (t : Bool) → both t (leb k (64 + 128 * (ptrsFor k - 1) + (w - 8) / 2)) ≡ false → pick t (trimmed k (v b)) (v b) w ≡ v b w
-      go true q = low (leb 8 w) (leb k (64 + 128 * (ptrsFor k - 1) + (w - 8) / 2)) q
-      go false q = refl
-
-  pub content-cut : (b w : ℕ) → place π v b ≡ 0 → 0 < ptrs π v (fileOf π v b) → 8 ≤ w
-      → len π v (fileOf π v b) ≤ 64 + 128 * (ptrsFor (len π v (fileOf π v b)) - 1) + (w - 8) / 2 → content π v b w ≡ 0
-  unfolding content trimmed
-  content-cut b w z p l h =
-      ap (λ (t : Bool). pick t (trimmed (len π v (fileOf π v b)) (v b)) (v b) w) (both-of (eq-eqb _ _ z) (lt-ltb _ _ p))
-      ∙ ap (λ (t : Bool). pick t 0 (v b w)) (both-of (le-leb 8 w l) (le-leb _ _ h))
-
   pub repaired-mine : (fr : List ℕ) (b : ℕ) → owned π v b ≡ true → repaired π v fr b ≡ relinked π v b
   unfolding repaired
   repaired-mine fr b h = ap (λ (t : Bool). pick t (relinked π v b) (freed π v fr b)) h
@@ -68,32 +103,34 @@ module _ (π : Partition) (v : View) where
   unfolding repaired
   repaired-free fr b h = ap (λ (t : Bool). pick t (relinked π v b) (freed π v fr b)) h
 
-  -- block by block: as it was, or repaired
+  relinked-off : (b w : ℕ) → w ≢ 4 → w ≢ 5 → w ≢ 6 → w ≢ 7 → relinked π v b w ≡ content π v b w
+  unfolding relinked
+  relinked-off b w n4 n5 n6 n7 = links-off _ _ (content π v b) w n4 n5 n6 n7
+
+  relinked-keeps : (b w : ℕ) → w ≢ 4 → w ≢ 5 → w ≢ 6 → w ≢ 7 → (w < 8) ⊎ (spare π v b w ≡ false) → relinked π v b w ≡ v b w
+  unfolding content spare
+  relinked-keeps b w n4 n5 n6 n7 h = relinked-off b w n4 n5 n6 n7 ∙ shaped-keeps _ _ (v b) w h
+
   abbrev pub Mid : View → Type 0
   Mid v′ = (b : ℕ) → b ≢ (π .s) → (v′ b ≡ v b) ⊎ (v′ b ≡ repaired π v (unowned π v) b)
 
   module _ (c : Clean π v) (v′ : View) (m : Mid v′) where
     -- a word that repair keeps
-    keeps : (b w : ℕ) → b ≢ (π .s) → repaired π v (unowned π v) b w ≡ v b w → v b w ≡ v′ b w
-    keeps b w ne h = go (m b ne)
+    keeps : (b w : ℕ) → owned π v b ≡ true → relinked π v b w ≡ v b w → v b w ≡ v′ b w
+    keeps b w o h = go (m b (owned-not-pib π v b o))
       where
         go : (v′ b ≡ v b) ⊎ (v′ b ≡ repaired π v (unowned π v) b) → v b w ≡ v′ b w
         go (inl p) = sym (ap (λ (r : Rec). r w) p)
-        go (inr p) = sym (ap (λ (r : Rec). r w) p ∙ h)
+        go (inr p) = sym (ap (λ (r : Rec). r w) (p ∙ repaired-mine (unowned π v) b o) ∙ h)
 
     mid-soft : (b : ℕ) → owned π v b ≡ true → Soft π v b (v′ b)
-    unfolding relinked put put2
-    mid-soft b h =
-        let q = repaired-mine (unowned π v) b h in
-        let n = owned-not-pib π v b h in
-        record {
-          head = record {
-            low = keeps b 0 n (ap (λ (r : Rec). r 0) q ∙ content-low b 0 (omega arith));
-            high = keeps b 1 n (ap (λ (r : Rec). r 1) q ∙ content-low b 1 (omega arith));
-            rel = keeps b 2 n (ap (λ (r : Rec). r 2) q ∙ content-low b 2 (omega arith));
-          };
-          words = λ w l k. keeps b w n (ap (λ (r : Rec). r w) q ∙ links-off _ _ (content π v b) w l ∙ content-used b w k);
-        }
+    mid-soft b o = record {
+      head = record { low = low 0 (omega arith); high = low 1 (omega arith); rel = low 2 (omega arith) };
+      words = λ w l k. keeps b w o (relinked-keeps b w (λ z. omega arith) (λ z. omega arith) (λ z. omega arith) (λ z. omega arith) (inr k));
+    }
+      where
+        low : (w : ℕ) → w < 4 → v b w ≡ v′ b w
+        low w l = keeps b w o (relinked-keeps b w (λ z. omega arith) (λ z. omega arith) (λ z. omega arith) (λ z. omega arith) (inl (omega arith)))
 
     mid-free : (b : ℕ) → owned π v b ≡ false → (v′ b ≡ v b) ⊎ (v′ b ≡ repaired π v (unowned π v) b) → Quiet π v b (v′ b)
     unfolding freed put put2

@@ -1,26 +1,23 @@
 -- Repair, cut and begun again any number of times, ends as repairStores at once.
-use mathlib.Core.Path.{_≡_, refl, sym, ap, ap₂, _∙_, subst, fun-ext}
+use mathlib.Core.Path.{_≡_, refl, sym, ap, ap₂, _∙_, fun-ext}
 use mathlib.Core.Logic.{_⊎_, inl, inr, _≢_}
 use mathlib.Core.List.{List, [], _∷_, _++_}
-use mathlib.Core.Bool.{Bool, true, false, not, _&&_, _||_, true≢false}
+use mathlib.Core.Bool.{Bool, true, false, _||_}
 use Prim.Native.Nat.{ℕ, zero, suc, _+_, _-_, _*_, _/_, _%_, _≤_, _<_}
 use native.Mathlib.Omega.{arith}
-use lib.Dec.{leb, ltb, eqb}
-use lib.ListN.{take, length, getD}
-use borrow.Author.Tests.{ltb-true, ltb-false, eqb-true, eqb-false, lt-ltb, le-ltb, eq-eqb, ne-eqb, le-leb, lt-leb, leb-true}
-use Rattle.base.specs.Tests.{pick, both, every, all, count, those, tabFrom, headOf, lastOf, above, below, occ}
-use Rattle.drive.specs.Address.{pda, pdaBlock, lda, ldaBlock}
-use Rattle.drive.specs.Laws.{pda-back, lda-back, pda-pos}
-use Rattle.image.specs.View.{upd-same, upd-other, View, Rec, Store, after, upd, pair, put, put2}
-use Rattle.base.specs.Laws.{cons-same, and-left, and-right, and-both, all-at, all-of, all-same, pick-same, every-at, both-left, both-right, both-of, iff-eq}
-use Rattle.volume.specs.Words.{nextAt, previousAt}
-use Rattle.volume.specs.Files.{unowned, Partition, isLda, blockAt, ptrIndex, ptrSlot, inside, serial, candidate, len, ptrsFor, ptrs, indirect, ptr, entry, name, names, nth, size, wellFormed, isFile, placeOf, place, fileOf, owned, files, nextOf, prevOf, orNil, free, freeHead, chain, chained, linked, sound, within}
-use Rattle.volume.specs.Frame.{SameHead, same-serial, head-of, head-trans, Shape, Kept, kept-len, kept-ptrs, kept-ptr, kept-indirect, kept-entry, kept-nth, kept-size, kept-name, kept-head, kept-wellFormed}
-use Rattle.volume.specs.Owned.{Own, own, owned-by, member, member-owned, file-back, place-back, few-ptrs, Member, nth-fib, nth-ptr, nth-data, ptr-in, fib-in, data-in, owned-in, owned-not-pib}
-use Rattle.volume.specs.Agree.{Clean, Alike, Agree, alike, agree-file, agree-files, agree-clean, agree-owned, agree-unowned, agree-place, agree-fileOf, agree-head}
-use Rattle.volume.specs.Plans.{repairPlan, stores, trimmed, repairStores, repairedPib, st, freshFib, newFirst, pibLess, content, relinked, freed, repaired}
-use Rattle.frame.specs.Soft.{headed, headed-is, headed-same, headed-rel, headed-zero, cand-in, cand-rel, cand-serial, spare, Soft, Quiet, soft-refl, soft-links, spare-at, ptr-of, soft-kept, soft-agree}
-use Rattle.frame.specs.Repair.{links-off, Mid, mid-agree, repaired-mine, repaired-free, content-cut}
+use lib.Dec.{eqb}
+use lib.ListN.{take, length}
+use borrow.Author.Tests.{eqb-true, eqb-false, eq-eqb, ne-eqb}
+use Rattle.base.specs.Tests.{pick, tabFrom, headOf, lastOf}
+use Rattle.image.specs.View.{View, Rec, Store, after, upd, pair, put, put2}
+use Rattle.base.specs.Laws.{pick-same}
+use Rattle.volume.specs.Words.{nextAt, previousAt, freeHeadAt, freeTailAt}
+use Rattle.volume.specs.Files.{Partition, address, len, wellFormed, fileOf, key, owned, unowned, above, below, link}
+use Rattle.volume.specs.Index.{own, file-candidate, file-formed, owned-not-pib, present-low, present-high}
+use Rattle.volume.specs.Order.{above-is, below-is}
+use Rattle.volume.specs.Frame.{Shape, Clean, Formed, formed, kept-len, kept-above, kept-below, kept-link, agree-owned, agree-unowned, agree-fileOf, agree-key}
+use Rattle.volume.specs.Plans.{st, shaped, content, relinked, freed, repaired, repairedPib, repairPlan, stores, repairStores}
+use Rattle.frame.specs.Repair.{address-twice, links-off, shaped-twice, Mid, mid-agree, repaired-mine, repaired-free}
 
 -- ---- stores that all write the record that R has for their block
 
@@ -58,23 +55,18 @@ of-tab R S i (suc k) h = (h i (omega arith), of-tab R S (suc i) k (λ b l. h b (
 
 -- ---- the records of repairStores are the same in a view that is partly repaired
 
+word : (x : ℕ) → x % 65536 + 65536 * (x / 65536) ≡ x
+word x = omega arith
+
 cover : (N M : ℕ) (r r′ : Rec) → ((w : ℕ) → w ≢ 4 → w ≢ 5 → w ≢ 6 → w ≢ 7 → r w ≡ r′ w) → put2 nextAt N (put2 previousAt M r) ≡ put2 nextAt N (put2 previousAt M r′)
 unfolding put put2
 cover N M r r′ h = fun-ext (λ w.
     pick-same (eqb w 4) (λ _. refl) (λ n4. pick-same (eqb w 5) (λ _. refl) (λ n5. pick-same (eqb w 6) (λ _. refl) (λ n6. pick-same (eqb w 7) (λ _. refl) (λ n7.
     h w (eqb-false w 4 n4) (eqb-false w 5 n5) (eqb-false w 6 n6) (eqb-false w 7 n7))))))
 
-trimmed-twice : (k : ℕ) (r r′ : Rec) (w : ℕ) → r′ w ≡ trimmed k r w → trimmed k r w ≡ trimmed k r′ w
-unfolding trimmed
-trimmed-twice k r r′ w q = go (both (leb 8 w) (leb k (64 + 128 * (ptrsFor k - 1) + (w - 8) / 2))) q
-  where
-    go : (t : Bool) → r′ w ≡ pick t 0 (r w) → pick t 0 (r w) ≡ pick t 0 (r′ w)
-    go true q = refl
-    go false q = sym q
-
 module _ (π : Partition) (v : View) (c : Clean π v) (v′ : View) (m : Mid π v v′) where
-  ag : Alike π v v′
-  ag = alike π (mid-agree π v c v′ m)
+  ag : Formed π v v′
+  ag = formed π (mid-agree π v c v′ m)
 
   free-kept : (b w : ℕ) → eqb w 0 ≡ false → eqb w 1 ≡ false → eqb w 3 ≡ false → eqb w 4 ≡ false → eqb w 5 ≡ false → eqb w 6 ≡ false → eqb w 7 ≡ false
       → freed π v (unowned π v) b w ≡ v b w
@@ -93,55 +85,41 @@ module _ (π : Partition) (v : View) (c : Clean π v) (v′ : View) (m : Mid π 
       go w (inr q) k = sym (ap (λ (r : Rec). r w) (q ∙ repaired-free π v (unowned π v) b o) ∙ k)
 
   module _ (b : ℕ) (o : owned π v b ≡ true) where
-    f : ℕ
-    f = fileOf π v b
+    cf : wellFormed π v (fileOf π v b) ≡ true
+    cf = file-formed π v _ (own π v b o .file)
 
     kf : Shape π v v′ (fileOf π v b)
-    unfolding isFile
-    kf = ag .shape (fileOf π v b) (both-left _ _ (own π v b o .file))
+    kf = ag .shape (fileOf π v b) (file-candidate π v _ (own π v b o .file))
 
-    pub next-same : nextOf π v (fileOf π v b) (place π v b) ≡ nextOf π v′ (fileOf π v′ b) (place π v′ b)
-    unfolding nextOf
+    pub next-same : link π v (fileOf π v b) (above π v (fileOf π v b) (key π v b)) ≡ link π v′ (fileOf π v′ b) (above π v′ (fileOf π v′ b) (key π v′ b))
     next-same =
         let g = fileOf π v b in
-        let i = place π v b in
-        pick-same (ltb (suc i) (size π v g)) (λ t. ap (pda (π .drive)) (kept-nth π v v′ g kf (suc i) (ltb-true _ _ t))) (λ _. refl)
-        ∙ ap (λ (n : ℕ). pick (ltb (suc i) n) (pda (π .drive) (nth π v′ g (suc i))) 0) (kept-size π v v′ g kf)
-        ∙ ap₂ (λ (x j : ℕ). nextOf π v′ x j) (agree-fileOf π v v′ c ag b o) (agree-place π v v′ c ag b o)
+        let k = key π v b in
+        kept-link π v v′ g kf (above π v g k) (λ n. above-is π v g cf k (present-high π v g k (own π v b o .here)) .hit n .0)
+        ∙ ap (link π v′ g) (kept-above π v v′ g kf k)
+        ∙ ap₂ (λ (x j : ℕ). link π v′ x (above π v′ x j)) (agree-fileOf π v v′ c ag b o) (agree-key π v v′ c ag b o)
 
-    pub prev-same : prevOf π v (fileOf π v b) (place π v b) ≡ prevOf π v′ (fileOf π v′ b) (place π v′ b)
-    unfolding prevOf
+    pub prev-same : link π v (fileOf π v b) (below π v (fileOf π v b) (key π v b)) ≡ link π v′ (fileOf π v′ b) (below π v′ (fileOf π v′ b) (key π v′ b))
     prev-same =
         let g = fileOf π v b in
-        let i = place π v b in
-        pick-same (eqb i 0) (λ _. refl) (λ t. ap (pda (π .drive)) (kept-nth π v v′ g kf (i - 1) (omega (arith, own π v b o .here))))
-        ∙ ap₂ (λ (x j : ℕ). prevOf π v′ x j) (agree-fileOf π v v′ c ag b o) (agree-place π v v′ c ag b o)
+        let k = key π v b in
+        kept-link π v v′ g kf (below π v g k) (λ n. below-is π v g cf k (present-low π v g k (own π v b o .here)) .hit n .0)
+        ∙ ap (link π v′ g) (kept-below π v v′ g kf k)
+        ∙ ap₂ (λ (x j : ℕ). link π v′ x (below π v′ x j)) (agree-fileOf π v v′ c ag b o) (agree-key π v v′ c ag b o)
+
+    shape-same : (r : Rec) → shaped (len π v (fileOf π v b)) (key π v b) r ≡ shaped (len π v′ (fileOf π v′ b)) (key π v′ b) r
+    shape-same r =
+        ap₂ (λ (n k : ℕ). shaped n k r) (kept-len π v v′ (fileOf π v b) kf ∙ ap (len π v′) (agree-fileOf π v v′ c ag b o)) (agree-key π v v′ c ag b o)
 
     content-same : (w : ℕ) → w ≢ 4 → w ≢ 5 → w ≢ 6 → w ≢ 7 → content π v b w ≡ content π v′ b w
-    unfolding content relinked put put2
-    content-same w n4 n5 n6 n7 =
-        go (m b (owned-not-pib π v b o))
-        ∙ ap₂ (λ (i p : ℕ). pick (both (eqb i 0) (ltb 0 p)) (trimmed k (v′ b)) (v′ b) w) (agree-place π v v′ c ag b o)
-        (kept-ptrs π v v′ _ kf ∙ ap (ptrs π v′) (agree-fileOf π v v′ c ag b o))
-        ∙ ap (λ (n : ℕ). pick (both (eqb (place π v′ b) 0) (ltb 0 (ptrs π v′ (fileOf π v′ b)))) (trimmed n (v′ b)) (v′ b) w)
-        (kept-len π v v′ _ kf ∙ ap (len π v′) (agree-fileOf π v v′ c ag b o))
+    unfolding content relinked
+    content-same w n4 n5 n6 n7 = go (m b (owned-not-pib π v b o)) ∙ ap (λ (r : Rec). r w) (shape-same (v′ b))
       where
-        k : ℕ
-        k = len π v (fileOf π v b)
-
-        t : Bool
-        t = both (eqb (place π v b) 0) (ltb 0 (ptrs π v (fileOf π v b)))
-
-        off : put2 nextAt (nextOf π v (fileOf π v b) (place π v b)) (put2 previousAt (prevOf π v (fileOf π v b) (place π v b)) (content π v b)) w ≡ content π v b w
-        off = simp (ne-eqb w 4 n4, ne-eqb w 5 n5, ne-eqb w 6 n6, ne-eqb w 7 n7)
-
-        twice : (u : Bool) → v′ b w ≡ pick u (trimmed k (v b)) (v b) w → pick u (trimmed k (v b)) (v b) w ≡ pick u (trimmed k (v′ b)) (v′ b) w
-        twice true q = trimmed-twice k (v b) (v′ b) w q
-        twice false q = sym q
-
-        go : (v′ b ≡ v b) ⊎ (v′ b ≡ repaired π v (unowned π v) b) → pick t (trimmed k (v b)) (v b) w ≡ pick t (trimmed k (v′ b)) (v′ b) w
-        go (inl q) = ap (λ (r : Rec). pick t (trimmed k r) r w) (sym q)
-        go (inr q) = twice t (ap (λ (r : Rec). r w) (q ∙ repaired-mine π v (unowned π v) b o) ∙ off)
+        go : (v′ b ≡ v b) ⊎ (v′ b ≡ repaired π v (unowned π v) b) → content π v b w
+            ≡ shaped (len π v (fileOf π v b)) (key π v b) (v′ b) w
+        go (inl q) = ap (λ (r : Rec). shaped (len π v (fileOf π v b)) (key π v b) r w) (sym q)
+        go (inr q) = shaped-twice _ _ (v b) (v′ b)
+            (λ x m4 m5 m6 m7. ap (λ (r : Rec). r x) (q ∙ repaired-mine π v (unowned π v) b o) ∙ links-off _ _ (content π v b) x m4 m5 m6 m7) w n4 n5 n6 n7
 
     mine-same : relinked π v b ≡ relinked π v′ b
     unfolding relinked
@@ -238,15 +216,27 @@ module _ (π : Partition) (v : View) (c : Clean π v) where
 
   pib-same : (v′ : View) → Part v′ → repairedPib π v (unowned π v) ≡ repairedPib π v′ (unowned π v′)
   unfolding repairedPib put put2
-  pib-same v′ p = fun-ext (λ w.
-      pick-same (eqb w 8) (λ _. refl) (λ n0. pick-same (eqb w 9) (λ _. refl) (λ n1. pick-same (eqb w 10) (λ _. refl) (λ n2.
-      pick-same (eqb w 11) (λ _. refl) (λ n3. pick-same (eqb w 12) (λ _. refl) (λ n4. pick-same (eqb w 13) (λ _. refl) (λ n5.
-      go w (p .pib) (simp (n0, n1, n2, n3, n4, n5)))))))))
-      ∙ ap (λ (l : List ℕ). repairedPib π v′ l) (agree-unowned π v v′ c (alike π (mid-agree π v c v′ (p .blocks))))
+  pib-same v′ p = go (p .pib) ∙ ap (λ (l : List ℕ). repairedPib π v′ l) (agree-unowned π v v′ c (formed π (mid-agree π v c v′ (p .blocks))))
     where
-      go : (w : ℕ) → (v′ (π .s) ≡ v (π .s)) ⊎ (v′ (π .s) ≡ repairedPib π v (unowned π v)) → repairedPib π v (unowned π v) w ≡ v (π .s) w → v (π .s) w ≡ v′ (π .s) w
-      go w (inl q) k = sym (ap (λ (r : Rec). r w) q)
-      go w (inr q) k = sym (ap (λ (r : Rec). r w) q ∙ k)
+      fr : List ℕ
+      fr = unowned π v
+
+      go : (v′ (π .s) ≡ v (π .s)) ⊎ (v′ (π .s) ≡ repairedPib π v (unowned π v)) → repairedPib π v (unowned π v) ≡ repairedPib π v′ (unowned π v)
+      go (inl q) = ap (λ (r : Rec). put2 freeHeadAt (address (π .drive) (r 8 + 65536 * r 9) (headOf 0 fr)) (put2 freeTailAt (address (π .drive) (r 10 + 65536 * r 11) (lastOf 0 fr)) (put2 12 (length fr) r))) (sym q)
+      go (inr q) = fun-ext (λ w.
+          pick-same (eqb w 8) (λ _. ap (λ (x : ℕ). x % 65536) head) (λ n0. pick-same (eqb w 9) (λ _. ap (λ (x : ℕ). x / 65536) head)
+          (λ n1. pick-same (eqb w 10) (λ _. ap (λ (x : ℕ). x % 65536) tail) (λ n2. pick-same (eqb w 11) (λ _. ap (λ (x : ℕ). x / 65536) tail)
+          (λ n3. pick-same (eqb w 12) (λ _. refl) (λ n4. pick-same (eqb w 13) (λ _. refl) (λ n5.
+          sym (ap (λ (r : Rec). r w) q ∙ simp (n0, n1, n2, n3, n4, n5)))))))))
+        where
+          one : (o x y b : ℕ) → x ≡ address (π .drive) o b % 65536 → y ≡ address (π .drive) o b / 65536 → address (π .drive) o b ≡ address (π .drive) (x + 65536 * y) b
+          one o x y b p q = sym (address-twice π o b) ∙ ap (λ (z : ℕ). address (π .drive) z b) (sym (word (address (π .drive) o b)) ∙ ap₂ (λ (a c : ℕ). a + 65536 * c) (sym p) (sym q))
+
+          head : address (π .drive) (pair v (π .s) freeHeadAt) (headOf 0 fr) ≡ address (π .drive) (pair v′ (π .s) freeHeadAt) (headOf 0 fr)
+          head = one _ _ _ _ (ap (λ (r : Rec). r 8) q) (ap (λ (r : Rec). r 9) q)
+
+          tail : address (π .drive) (pair v (π .s) freeTailAt) (lastOf 0 fr) ≡ address (π .drive) (pair v′ (π .s) freeTailAt) (lastOf 0 fr)
+          tail = one _ _ _ _ (ap (λ (r : Rec). r 10) q) (ap (λ (r : Rec). r 11) q)
 
   pub target-same : (v′ : View) → Part v′ → (b : ℕ) → target π v b ≡ target π v′ b
   unfolding target

@@ -1,24 +1,25 @@
 -- Frame law of stores: a record that differs from a block's in links, filler and spare words alone, and one that is put into a
 -- block that no file owns and that does not become a candidate, leave every file as it was.
-use mathlib.Core.Path.{_≡_, refl, sym, ap, ap₂, _∙_, subst, fun-ext}
+use mathlib.Core.Path.{_≡_, refl, sym, ap, ap₂, _∙_, subst}
 use mathlib.Core.Logic.{_⊎_, inl, inr, _≢_}
-use mathlib.Core.List.{List, [], _∷_, _++_}
-use mathlib.Core.Bool.{Bool, true, false, not, _&&_, _||_, true≢false}
-use Prim.Native.Nat.{ℕ, zero, suc, _+_, _-_, _*_, _/_, _%_, _≤_, _<_}
+use mathlib.Core.List.{[], _∷_}
+use mathlib.Core.Bool.{Bool, true, false, _&&_, true≢false}
+use Prim.Native.Nat.{ℕ, _+_, _-_, _*_, _≤_, _<_}
 use native.Mathlib.Omega.{arith}
+use native.Mathlib.Nat.{add-zero}
 use lib.Dec.{leb, ltb, eqb}
-use lib.ListN.{take, length, getD}
-use borrow.Author.Tests.{ltb-true, ltb-false, eqb-true, eqb-false, lt-ltb, le-ltb, eq-eqb, ne-eqb, le-leb, lt-leb, leb-true}
-use Rattle.base.specs.Tests.{pick, both, every, all, count, those, tabFrom, headOf, lastOf, above, below, occ}
-use Rattle.drive.specs.Address.{pda, pdaBlock, lda, ldaBlock}
-use Rattle.drive.specs.Laws.{pda-back, lda-back, pda-pos}
-use Rattle.image.specs.View.{upd-same, upd-other, View, Rec, Store, after, upd, pair, put, put2}
-use Rattle.base.specs.Laws.{cons-same, and-left, and-right, and-both, all-at, all-of, all-same, pick-same, every-at, both-left, both-right, both-of, iff-eq}
-use Rattle.volume.specs.Words.{relativeAt, serialAt}
-use Rattle.volume.specs.Files.{Partition, isLda, blockAt, ptrIndex, ptrSlot, inside, serial, candidate, len, ptrsFor, ptrs, indirect, ptr, entry, name, names, nth, size, wellFormed, isFile, placeOf, place, fileOf, owned, files, nextOf, prevOf, orNil, free, freeHead, chain, chained, linked, sound, within}
-use Rattle.volume.specs.Frame.{SameHead, same-serial, head-of, head-trans, Shape, Kept, kept-len, kept-ptrs, kept-ptr, kept-indirect, kept-entry, kept-nth, kept-size, kept-name, kept-head, kept-wellFormed}
-use Rattle.volume.specs.Owned.{Own, own, owned-by, member, member-owned, file-back, place-back, few-ptrs, Member, nth-fib, nth-ptr, nth-data, ptr-in, fib-in, data-in, owned-in, owned-not-pib}
-use Rattle.volume.specs.Agree.{Clean, Alike, Agree, alike, agree-file, agree-files, agree-clean, agree-owned, agree-unowned, agree-place, agree-fileOf, agree-head}
+use borrow.Author.Tests.{eqb-true, eqb-false, le-ltb, ne-eqb, lt-leb}
+use Rattle.base.specs.Tests.{pick, both, every}
+use Rattle.base.specs.Laws.{every-at, iff-eq}
+use Rattle.drive.specs.Address.{pda}
+use Rattle.drive.specs.Laws.{pda-pos}
+use Rattle.image.specs.View.{View, Rec, pair}
+use Rattle.volume.specs.Words.{serialAt}
+use Rattle.volume.specs.Keys.{home, up, slot, child, first}
+use Rattle.volume.specs.KeyLaws.{slot-fib, slot-low, child-slot, low-pos, asked-low, asked-high}
+use Rattle.volume.specs.Files.{Partition, inside, candidate, len, spot, present, wellFormed, fileOf, key, owned}
+use Rattle.volume.specs.Index.{spot-home, present-home, wf-of, file-back, key-back, member-owned, owned-in}
+use Rattle.volume.specs.Frame.{SameHead, same-serial, head-of, Kept, Clean, Agree}
 
 -- a block with the record r would be a candidate
 unfoldable pub headed : Partition → ℕ → Rec → Bool
@@ -55,20 +56,30 @@ module _ (π : Partition) where
   unfolding candidate
   cand-in v f h = every-at _ h 0
 
-  pub cand-rel : (v : View) (f : ℕ) → candidate π v f ≡ true → v f relativeAt ≡ 65535
-  unfolding candidate
-  cand-rel v f h = eqb-true _ _ (every-at _ h 2)
-
   pub cand-serial : (v : View) (f : ℕ) → candidate π v f ≡ true → pair v f serialAt ≡ pda (π .drive) f
   unfolding candidate
   cand-serial v f h = eqb-true _ _ (every-at _ h 1)
 
+-- the words of a FIB that soundness alone asks about: none
+unfoldable pub tallyWord : ℕ → Bool
+tallyWord w = false
+
+pub tally-not : (w : ℕ) → w ≢ 257 → w < 261 → tallyWord w ≡ false
+unfolding tallyWord
+tally-not w n l = refl
+
+pub both-no : (a b : Bool) → b ≡ false → both a b ≡ false
+unfolding both
+both-no true b q = q
+both-no false b q = refl
+
 module _ (π : Partition) (v : View) where
-  -- word w of b is an unused entry of its file's last pointer block
+  -- word w of b is one of these, or an entry of a pointer block that L does not ask for
   unfoldable pub spare : ℕ → ℕ → Bool
   spare b w =
       let f = fileOf π v b in
-      both (both (eqb (place π v b) 0) (ltb 0 (ptrs π v f))) (leb (len π v f) (64 + 128 * (ptrs π v f - 1) + (w - 8) / 2))
+      let k = key π v b in
+      pick (eqb k home) (tallyWord w) (both (ltb k home) (leb (len π v f) (first (child k w))))
 
   -- r instead of b's record changes links, filler and spare words alone
   pub record Soft (b : ℕ) (r : Rec) : Type 0 where
@@ -81,92 +92,64 @@ module _ (π : Partition) (v : View) where
   pub soft-refl : (b : ℕ) {r : Rec} → r ≡ v b → Soft b r
   soft-refl b q = record { head = head-of (sym q); words = λ w _ _. sym (ap (λ (r : Rec). r w) q) }
 
-  -- links and filler
-  pub soft-links : (b : ℕ) {r : Rec} (r₀ : Rec) → v b ≡ r₀ → ((w : ℕ) → w ≢ 3 → w ≢ 4 → w ≢ 5 → w ≢ 6 → w ≢ 7 → r w ≡ r₀ w) → Soft b r
-  soft-links b {r} r₀ q h = record {
-    head = record { low = same 0 (λ z. omega arith) (λ z. omega arith) (λ z. omega arith) (λ z. omega arith) (λ z. omega arith); high = same 1 (λ z. omega arith) (λ z. omega arith) (λ z. omega arith) (λ z. omega arith) (λ z. omega arith); rel = same 2 (λ z. omega arith) (λ z. omega arith) (λ z. omega arith) (λ z. omega arith) (λ z. omega arith) };
-    words = λ w l _. same w (λ z. omega arith) (λ z. omega arith) (λ z. omega arith) (λ z. omega arith) (λ z. omega arith);
-  }
-    where
-      same : (w : ℕ) → w ≢ 3 → w ≢ 4 → w ≢ 5 → w ≢ 6 → w ≢ 7 → v b w ≡ r w
-      same w n3 n4 n5 n6 n7 = ap (λ (x : Rec). x w) q ∙ sym (h w n3 n4 n5 n6 n7)
-
   -- ---- the spare words of a file's blocks
   module _ (f : ℕ) (cf : candidate π v f ≡ true) (wf : wellFormed π v f ≡ true) where
-    pub spare-at : (i w : ℕ) → i < size π v f
-        → spare (nth π v f i) w ≡ both (both (eqb i 0) (ltb 0 (ptrs π v f))) (leb (len π v f) (64 + 128 * (ptrs π v f - 1) + (w - 8) / 2))
+    pub spare-at : (k w : ℕ) → present π v f k ≡ true → spare (spot π v f k) w ≡ pick (eqb k home) (tallyWord w) (both (ltb k home) (leb (len π v f) (first (child k w))))
     unfolding spare
-    spare-at i w l = ap₂ (λ (j g : ℕ). both (both (eqb j 0) (ltb 0 (ptrs π v g))) (leb (len π v g) (64 + 128 * (ptrs π v g - 1) + (w - 8) / 2))) (place-back π v f cf wf i l) (file-back π v f cf wf i l)
+    spare-at k w p =
+        ap₂ (λ (j g : ℕ). pick (eqb j home) (tallyWord w) (both (ltb j home) (leb (len π v g) (first (child j w))))) (key-back π v f cf wf k p) (file-back π v f cf wf k p)
 
-    none : (i w : ℕ) → i < size π v f → both (eqb i 0) (ltb 0 (ptrs π v f)) ≡ false → spare (nth π v f i) w ≡ false
-    unfolding both
-    none i w l q = spare-at i w l ∙ ap (λ (t : Bool). both t (leb (len π v f) (64 + 128 * (ptrs π v f - 1) + (w - 8) / 2))) q
+    pub spare-fib : (w : ℕ) → spare f w ≡ tallyWord w
+    spare-fib w = subst (λ (b : ℕ). spare b w ≡ tallyWord w) (spot-home π v f) (spare-at home w (present-home π v f))
 
-    pub spare-fib : (w : ℕ) → spare f w ≡ false
+    pub spare-data : (k w : ℕ) → home < k → present π v f k ≡ true → spare (spot π v f k) w ≡ false
     unfolding both
-    spare-fib w = subst (λ (x : ℕ). spare x w ≡ false) (nth-fib π v f) (none (ptrs π v f) w (fib-in π v f) (go (eqb (ptrs π v f) 0) refl))
+    spare-data k w l p =
+        spare-at k w p ∙ ap₂ (λ (t u : Bool). pick t (tallyWord w) (both u (leb (len π v f) (first (child k w))))) (ne-eqb k home (λ z. omega arith)) (le-ltb k home (omega arith))
+
+    -- the entry of a key that L asks for is not spare
+    pub spare-entry : (k x : ℕ) → k ≢ home → x < 2 → present π v f (up k) ≡ true → (first k < len π v f) ⊎ (up k ≡ home) → spare (spot π v f (up k)) (slot k + x) ≡ false
+    spare-entry k x n l p a = spare-at (up k) (slot k + x) p ∙ go (eqb (up k) home) refl a
       where
-        go : (t : Bool) → eqb (ptrs π v f) 0 ≡ t → both t (ltb 0 (ptrs π v f)) ≡ false
-        go true q = le-ltb 0 (ptrs π v f) (omega (arith, eqb-true (ptrs π v f) 0 q))
-        go false q = refl
-
-    pub spare-data : (r w : ℕ) → r < len π v f → spare (name π v f r) w ≡ false
-    unfolding both
-    spare-data r w l = subst (λ (x : ℕ). spare x w ≡ false) (nth-data π v f r) (none (ptrs π v f + suc r) w (data-in π v f r l) (ap (λ (t : Bool). both t (ltb 0 (ptrs π v f))) (ne-eqb (ptrs π v f + suc r) 0 (λ z. omega arith))))
-
-    pub ptr-of : (r : ℕ) → r < len π v f → 64 ≤ r → ptrIndex r < ptrs π v f
-    unfolding ptrs ptrsFor
-    ptr-of r h l = omega arith
-
-    pub spare-slot : (r w : ℕ) → r < len π v f → 64 ≤ r → (w - 8) / 2 ≡ ptrSlot r → spare (ptr π v f (ptrIndex r)) w ≡ false
-    unfolding both ptrs ptrsFor
-    spare-slot r w h l u =
-        subst (λ (x : ℕ). spare x w ≡ false) (nth-ptr π v f q lq)
-        (spare-at (ptrs π v f - suc q) w (ptr-in π v f q lq) ∙ go (eqb (ptrs π v f - suc q) 0) refl)
-      where
-        q : ℕ
-        q = ptrIndex r
-
-        lq : (r - 64) / 128 < ptrs π v f
-        lq = ptr-of r h l
-
-        go : (t : Bool) → eqb (ptrs π v f - suc q) 0 ≡ t → both (both t (ltb 0 (ptrs π v f))) (leb (len π v f) (64 + 128 * (ptrs π v f - 1) + (w - 8) / 2)) ≡ false
-        go true z = last (ltb 0 (ptrs π v f)) (lt-leb (len π v f) (64 + 128 * (ptrs π v f - 1) + (w - 8) / 2) (used (eqb-true (ptrs π v f - suc q) 0 z)))
-          where
-            used : ptrs π v f - suc q ≡ 0 → 64 + 128 * (ptrs π v f - 1) + (w - 8) / 2 < len π v f
-            used y = omega (arith, lq)
-
-            last : (t : Bool) {x : Bool} → x ≡ false → both (both true t) x ≡ false
-            last true p = p
-            last false p = refl
-        go false z = refl
+        go : (t : Bool) → eqb (up k) home ≡ t → (first k < len π v f) ⊎ (up k ≡ home)
+            → pick t (tallyWord (slot k + x)) (both (ltb (up k) home) (leb (len π v f) (first (child (up k) (slot k + x))))) ≡ false
+        go true q a = let r = slot-fib k n (eqb-true (up k) home q) in tally-not (slot k + x) (λ z. omega (arith, r .1)) (omega (arith, r .1))
+        go false q (inr z) = absurd (eqb-false (up k) home q z)
+        go false q (inl z) =
+            let c = child-slot k x (omega (arith, asked-low k (len π v f) z, low-pos (len π v f) (wf-of π v f wf .short))) (omega (arith, asked-high k (len π v f) z, wf-of π v f wf .short)) n l in
+            both-no _ _ (lt-leb _ _ (subst (λ (j : ℕ). first j < len π v f) (sym c) z))
 
     -- what keeps f: its own blocks softly changed
-    module _ (v′ : View) (soft-at : (i : ℕ) → i < size π v f → Soft (nth π v f i) (v′ (nth π v f i))) where
+    module _ (v′ : View) (soft-at : (k : ℕ) → present π v f k ≡ true → Soft (spot π v f k) (v′ (spot π v f k))) where
       pub soft-fib : Soft f (v′ f)
-      soft-fib = subst (λ (x : ℕ). Soft x (v′ x)) (nth-fib π v f) (soft-at _ (fib-in π v f))
+      soft-fib = subst (λ (x : ℕ). Soft x (v′ x)) (spot-home π v f) (soft-at home (present-home π v f))
 
-      soft-ptr : (q : ℕ) → q < ptrs π v f → Soft (ptr π v f q) (v′ (ptr π v f q))
-      soft-ptr q l = subst (λ (x : ℕ). Soft x (v′ x)) (nth-ptr π v f q l) (soft-at _ (ptr-in π v f q l))
+      fib-word : (w : ℕ) → 8 ≤ w → w ≢ 257 → w < 261 → v f w ≡ v′ f w
+      fib-word w l n m = soft-fib .words w l (spare-fib w ∙ tally-not w n m)
 
-      soft-data : (r : ℕ) → r < len π v f → Soft (name π v f r) (v′ (name π v f r))
-      soft-data r l = subst (λ (x : ℕ). Soft x (v′ x)) (nth-data π v f r) (soft-at _ (data-in π v f r l))
-
-      soft-slot : (r w : ℕ) → r < len π v f → 64 ≤ r → 8 ≤ w → (w - 8) / 2 ≡ ptrSlot r → v (ptr π v f (ptrIndex r)) w ≡ v′ (ptr π v f (ptrIndex r)) w
-      soft-slot r w h l g u = soft-ptr (ptrIndex r) (ptr-of r h l) .words w g (spare-slot r w h l u)
+      any-word : (w : ℕ) → 8 ≤ w → v f w ≡ v′ f w
+      unfolding tallyWord
+      any-word w l = soft-fib .words w l (spare-fib w)
 
       pub soft-kept : Kept π v v′ f
       soft-kept = record {
         shape = record {
-          head = soft-fib .head;
-          fib = λ w l. soft-fib .words w (omega arith) (spare-fib w);
-          ptrHead = λ q l. soft-ptr q l .head;
-          dataHead = λ r l. soft-data r l .head;
-          slots = λ r h l. ap₂ (λ (x y : ℕ). x + 65536 * y) (soft-slot r (8 + 2 * ptrSlot r) h l (omega arith) (omega arith)) (soft-slot r (8 + 2 * ptrSlot r + 1) h l (omega arith) (omega arith));
+          length = fib-word 258 (omega arith) (λ z. omega arith) (omega arith);
+          last = ap₂ (λ (x y : ℕ). x + 65536 * y) (fib-word 259 (omega arith) (λ z. omega arith) (omega arith)) (fib-word 260 (omega arith) (λ z. omega arith) (omega arith));
+          used = any-word 257 (omega arith);
+          lowest = any-word 261 (omega arith);
+          lowAt = ap₂ (λ (x y : ℕ). x + 65536 * y) (any-word 262 (omega arith)) (any-word 263 (omega arith));
+          heads = λ k p. soft-at k p .head;
+          entries = λ k n p a. ap₂ (λ (x y : ℕ). x + 65536 * y) (rw add-zero at (word k n p a 0 (omega arith))) (word k n p a 1 (omega arith));
         };
-        text = λ w l. soft-fib .words w l (spare-fib w);
-        bytes = λ r l w h. soft-data r l .words w h (spare-data r w l);
+        text = λ w l m. fib-word w l (λ z. omega arith) (omega arith);
+        kind = fib-word 256 (omega arith) (λ z. omega arith) (omega arith);
+        bytes = λ k l p w h. soft-at k p .words w h (spare-data k w l p);
       }
+        where
+          word : (k : ℕ) → k ≢ home → present π v f (up k) ≡ true → (first k < len π v f) ⊎ (up k ≡ home) → (x : ℕ) → x < 2
+              → v (spot π v f (up k)) (slot k + x) ≡ v′ (spot π v f (up k)) (slot k + x)
+          word k n p a x l = soft-at (up k) p .words (slot k + x) (omega (arith, slot-low k)) (spare-entry k x n l p a)
 
   module _ (c : Clean π v) (v′ : View) (m : (b : ℕ) → inside π b ≡ true → Quiet b (v′ b)) where
     soft-own : (b : ℕ) → owned π v b ≡ true → Soft b (v′ b)
@@ -176,8 +159,8 @@ module _ (π : Partition) (v : View) where
         go (inl x) = x
         go (inr x) = absurd (true≢false (sym h ∙ x .0))
 
-    at-own : (f : ℕ) → candidate π v f ≡ true → (i : ℕ) → i < size π v f → Soft (nth π v f i) (v′ (nth π v f i))
-    at-own f cf i l = soft-own _ (member-owned π v f cf (c f cf) i l)
+    at-own : (f : ℕ) → candidate π v f ≡ true → (k : ℕ) → present π v f k ≡ true → Soft (spot π v f k) (v′ (spot π v f k))
+    at-own f cf k p = soft-own _ (member-owned π v f cf (c f cf) k p)
 
     same-cand : (f : ℕ) → SameHead (v f) (v′ f) → candidate π v f ≡ candidate π v′ f
     same-cand f h = headed-is π v f ∙ headed-same π f h ∙ sym (headed-is π v′ f)

@@ -1,23 +1,21 @@
 -- What soundness gives: every candidate is a linked file, and the free chain has the unowned blocks, each once.
-use mathlib.Core.Path.{_≡_, refl, sym, ap, ap₂, _∙_, subst, fun-ext}
-use mathlib.Core.Logic.{_⊎_, inl, inr, _≢_}
+use mathlib.Core.Path.{_≡_, refl, sym, ap, _∙_, subst}
+use mathlib.Core.Logic.{_≢_}
 use mathlib.Core.List.{List, [], _∷_, _++_}
-use mathlib.Core.Bool.{Bool, true, false, not, _&&_, _||_, true≢false}
-use Prim.Native.Nat.{ℕ, zero, suc, _+_, _-_, _*_, _/_, _%_, _≤_, _<_}
+use mathlib.Core.Bool.{Bool, true, false, not, _||_, true≢false}
+use Prim.Native.Nat.{ℕ, zero, suc, _+_, _-_, _≤_, _<_}
 use native.Mathlib.Omega.{arith}
-use lib.Dec.{leb, ltb, eqb}
-use lib.ListN.{take, length, getD}
-use borrow.Author.Tests.{ltb-true, ltb-false, eqb-true, eqb-false, lt-ltb, le-ltb, eq-eqb, ne-eqb, le-leb, lt-leb, leb-true}
-use Rattle.base.specs.Tests.{pick, both, every, all, count, those, tabFrom, headOf, lastOf, above, below, occ}
-use Rattle.drive.specs.Address.{pda, pdaBlock, lda, ldaBlock}
-use Rattle.drive.specs.Laws.{pda-back, lda-back, pda-pos}
-use Rattle.image.specs.View.{upd-same, upd-other, View, Rec, Store, after, upd, pair, put, put2}
-use Rattle.base.specs.Laws.{cons-same, and-left, and-right, and-both, all-at, all-of, all-same, pick-same, every-at, both-left, both-right, both-of, iff-eq}
+use lib.Dec.{eqb}
+use lib.ListN.{length}
+use borrow.Author.Tests.{ltb-true, eqb-true, eq-eqb, leb-true}
+use Rattle.base.specs.Tests.{pick, both, all, headOf, lastOf, occ}
+use Rattle.base.specs.Laws.{all-at, every-at, both-left, both-right}
+use Rattle.drive.specs.Address.{pdaBlock, ldaBlock}
+use Rattle.image.specs.View.{View, pair}
 use Rattle.volume.specs.Words.{freeHeadAt, freeTailAt, nextAt, numberFreeAt}
-use Rattle.volume.specs.Files.{unowned, Partition, isLda, blockAt, ptrIndex, ptrSlot, inside, serial, candidate, len, ptrsFor, ptrs, indirect, ptr, entry, name, names, nth, size, wellFormed, isFile, placeOf, place, fileOf, owned, files, nextOf, prevOf, orNil, free, freeHead, chain, chained, linked, fileTest, sound, freeSound, within}
-use Rattle.volume.specs.Frame.{SameHead, same-serial, head-of, head-trans, Shape, Kept, kept-len, kept-ptrs, kept-ptr, kept-indirect, kept-entry, kept-nth, kept-size, kept-name, kept-head, kept-wellFormed}
-use Rattle.volume.specs.Owned.{Own, own, owned-by, member, member-owned, file-back, place-back, few-ptrs, Member, nth-fib, nth-ptr, nth-data, ptr-in, fib-in, data-in, owned-in, owned-not-pib}
-use Rattle.volume.specs.Agree.{Clean, Alike, Agree, alike, agree-file, agree-files, agree-clean, agree-owned, agree-unowned, agree-place, agree-fileOf, agree-head}
+use Rattle.volume.specs.Files.{Partition, isLda, inside, within, candidate, wellFormed, owned, unowned, linked, fileTest, free, freeHead, chain, chained, sound, freeSound}
+use Rattle.volume.specs.Frame.{Clean}
+use Rattle.frame.specs.Repair.{lda-block}
 use Rattle.frame.specs.Chain.{occ-in}
 use Rattle.frame.specs.Soft.{cand-in}
 
@@ -39,7 +37,7 @@ pub record Starts (xs l : List ℕ) : Type 0 where
   pub rest : List ℕ
   pub is : l ≡ xs ++ rest
 
-within-occ : (π : Partition) (l : List ℕ) (x : ℕ) → within π l ≡ true → 0 < occ x l → inside π x ≡ true
+pub within-occ : (π : Partition) (l : List ℕ) (x : ℕ) → within π l ≡ true → 0 < occ x l → inside π x ≡ true
 unfolding within occ
 within-occ π [] x h p = absurd (omega arith)
 within-occ π (y ∷ l) x h p = go (eqb x y) refl p (within-occ π l x (both-right _ _ h))
@@ -148,13 +146,13 @@ module _ (π : Partition) (v : View) (ok : sound π v ≡ true) where
   unfolding sound freeSound
   sound-chained = every-at _ (both-right _ _ ok) 2
 
-  pub sound-head : pair v (π .s) freeHeadAt ≡ lda (π .drive) (headOf 0 (free π v))
+  pub sound-head : isLda (π .drive) (pair v (π .s) freeHeadAt) (headOf 0 (free π v)) ≡ true
   unfolding sound freeSound
-  sound-head = eqb-true _ _ (every-at _ (both-right _ _ ok) 3)
+  sound-head = every-at _ (both-right _ _ ok) 3
 
-  pub sound-tail : pair v (π .s) freeTailAt ≡ lda (π .drive) (lastOf 0 (free π v))
+  pub sound-tail : isLda (π .drive) (pair v (π .s) freeTailAt) (lastOf 0 (free π v)) ≡ true
   unfolding sound freeSound
-  sound-tail = eqb-true _ _ (every-at _ (both-right _ _ ok) 4)
+  sound-tail = every-at _ (both-right _ _ ok) 4
 
   pub sound-number : pair v (π .s) numberFreeAt ≡ length (free π v)
   unfolding sound freeSound
@@ -181,8 +179,7 @@ module _ (π : Partition) (v : View) (ok : sound π v ≡ true) where
   last-in = last-occ 0 (free π v) (sound-some π v ok)
 
   pub tail-is : (ldaBlock (π .drive)) (pair v (π .s) freeTailAt) ≡ lastOf 0 (free π v)
-  unfolding sound freeSound inside
-  tail-is = ap (ldaBlock (π .drive)) (eqb-true _ _ (every-at _ (both-right _ _ ok) 4)) ∙ lda-back (π .drive) (lastOf 0 (free π v))
+  tail-is = lda-block π _ _ (sound-tail π v ok)
 
   pub tail-free : 0 < occ ((ldaBlock (π .drive)) (pair v (π .s) freeTailAt)) (free π v)
   tail-free = subst (λ (x : ℕ). 0 < occ x (free π v)) (sym tail-is) last-in

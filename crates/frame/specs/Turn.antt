@@ -1,24 +1,21 @@
--- A run of stores: what holds of every block's record before, and of every record stored, holds after.
-use mathlib.Core.Path.{_≡_, refl, sym, ap, ap₂, _∙_, subst, fun-ext}
+-- A run of stores: what holds of every block's record before, and of every record stored, holds after. A change of one file.
+use mathlib.Core.Path.{_≡_, refl, sym, ap, _∙_, subst}
 use mathlib.Core.Logic.{_⊎_, inl, inr, _≢_}
 use mathlib.Core.List.{List, [], _∷_, _++_}
-use mathlib.Core.Bool.{Bool, true, false, not, _&&_, _||_, true≢false}
-use Prim.Native.Nat.{ℕ, zero, suc, _+_, _-_, _*_, _/_, _%_, _≤_, _<_}
+use mathlib.Core.Bool.{Bool, true, false, true≢false}
+use Prim.Native.Nat.{ℕ, zero, suc, _+_, _-_, _≤_}
 use native.Mathlib.Omega.{arith}
-use lib.Dec.{leb, ltb, eqb}
-use lib.ListN.{take, length, getD}
-use borrow.Author.Tests.{ltb-true, ltb-false, eqb-true, eqb-false, lt-ltb, le-ltb, eq-eqb, ne-eqb, le-leb, lt-leb, leb-true}
-use Rattle.base.specs.Tests.{pick, both, every, all, count, those, tabFrom, headOf, lastOf, above, below, occ}
-use Rattle.drive.specs.Address.{pda, pdaBlock, lda, ldaBlock}
-use Rattle.drive.specs.Laws.{pda-back, lda-back, pda-pos}
-use Rattle.image.specs.View.{upd-same, upd-other, View, Rec, Store, after, upd, pair, put, put2}
-use Rattle.base.specs.Laws.{cons-same, and-left, and-right, and-both, all-at, all-of, all-same, pick-same, every-at, both-left, both-right, both-of, iff-eq}
-use Rattle.volume.specs.Files.{unowned, Partition, isLda, blockAt, ptrIndex, ptrSlot, inside, serial, candidate, len, ptrsFor, ptrs, indirect, ptr, entry, name, names, nth, size, wellFormed, isFile, placeOf, place, fileOf, owned, files, nextOf, prevOf, orNil, free, freeHead, chain, chained, linked, sound, within}
-use Rattle.volume.specs.Frame.{SameHead, same-serial, head-of, head-trans, Shape, Kept, kept-len, kept-ptrs, kept-ptr, kept-indirect, kept-entry, kept-nth, kept-size, kept-name, kept-head, kept-wellFormed}
-use Rattle.volume.specs.Owned.{Own, own, owned-by, member, member-owned, file-back, place-back, few-ptrs, Member, nth-fib, nth-ptr, nth-data, ptr-in, fib-in, data-in, owned-in, owned-not-pib}
-use Rattle.volume.specs.Agree.{Clean, Alike, Agree, alike, agree-file, agree-files, agree-clean, agree-owned, agree-unowned, agree-place, agree-fileOf, agree-head}
+use lib.Dec.{eqb}
+use lib.ListN.{take, length}
 use lib.Seq.{take-append-le}
-use Rattle.volume.specs.Plans.{st}
+use borrow.Author.Tests.{ltb-true, eqb-true, eqb-false}
+use Rattle.base.specs.Tests.{pick}
+use Rattle.base.specs.Laws.{both-left, iff-eq}
+use Rattle.image.specs.View.{View, Rec, Store, after, upd}
+use Rattle.volume.specs.Keys.{home}
+use Rattle.volume.specs.Files.{Partition, inside, candidate, wellFormed, spot, present, fileOf, key, owned}
+use Rattle.volume.specs.Index.{spot-home, present-home, own, file-candidate, member-owned, file-back, owned-in}
+use Rattle.volume.specs.Frame.{SameHead, Kept, Clean, Agree, kept-present, kept-spot, kept-wellFormed}
 use Rattle.frame.specs.Soft.{headed, headed-is, headed-same, cand-in, Soft, Quiet, soft-refl, soft-agree, soft-kept}
 
 -- P holds of each store's block and record
@@ -117,27 +114,24 @@ module _ (π : Partition) (v : View) (c : Clean π v) where
             go (inl x) = x
             go (inr x) = absurd (n (sym q ∙ x .0 o))
 
-        at : (g : ℕ) → g ≢ f → (h : candidate π v g ≡ true) → (i : ℕ) → i < size π v g → Soft π v (nth π v g i) (v′ (nth π v g i))
-        at g n h i l = soft g n _ (member-owned π v g h (c g h) i l) (file-back π v g h (c g h) i l)
+        at : (g : ℕ) → g ≢ f → (h : candidate π v g ≡ true) → (k : ℕ) → present π v g k ≡ true → Soft π v (spot π v g k) (v′ (spot π v g k))
+        at g n h k p = soft g n _ (member-owned π v g h (c g h) k p) (file-back π v g h (c g h) k p)
 
         others : (g : ℕ) → g ≢ f → candidate π v g ≡ true → Kept π v v′ g
         others g n h = soft-kept π v g h (c g h) v′ (at g n h)
+
+        fib-head : (g : ℕ) → g ≢ f → candidate π v g ≡ true → SameHead (v g) (v′ g)
+        fib-head g n h = subst (λ (b : ℕ). SameHead (v b) (v′ b)) (spot-home π v g) (at g n h home (present-home π v g) .head)
 
         same : (g : ℕ) → SameHead (v g) (v′ g) → candidate π v g ≡ candidate π v′ g
         same g h = headed-is π v g ∙ headed-same π g h ∙ sym (headed-is π v′ g)
 
         cands : (g : ℕ) → g ≢ f → candidate π v g ≡ candidate π v′ g
-        cands g n = iff-eq _ _ (λ h. sym (same g (others g n h .shape .head)) ∙ h) (λ h. go h (m g (cand-in π v′ g h)))
+        cands g n = iff-eq _ _ (λ h. sym (same g (fib-head g n h)) ∙ h) (λ h. go h (m g (cand-in π v′ g h)))
           where
             go : candidate π v′ g ≡ true → Soft π v g (v′ g) ⊎ ((owned π v g ≡ true → fileOf π v g ≡ f) × (g ≢ f → headed π g (v′ g) ≡ false)) → candidate π v g ≡ true
             go h (inl x) = same g (x .head) ∙ h
             go h (inr x) = absurd (true≢false (sym h ∙ headed-is π v′ g ∙ x .1 n))
-
-    -- f of the same form takes no block
-    pub turn-left : (t : Turn π v v′ f) → candidate π v f ≡ true → (k : Shape π v v′ f) → (b : ℕ) → owned π v b ≡ false → (i : ℕ) → i < size π v′ f → nth π v′ f i ≢ b
-    turn-left t h k b o i l z =
-        let m = subst (λ (n : ℕ). i < n) (sym (kept-size π v v′ f k)) l in
-        true≢false (sym (member-owned π v f h (c f h) i m) ∙ ap (owned π v) (kept-nth π v v′ f k i m ∙ z) ∙ o)
 
     module _ (t : Turn π v v′ f) (w : candidate π v′ f ≡ true → wellFormed π v′ f ≡ true) where
       pub turn-clean : Clean π v′
@@ -151,38 +145,22 @@ module _ (π : Partition) (v : View) (c : Clean π v) where
               sym (kept-wellFormed π v v′ g (t .others g n k .shape)) ∙ c g k
 
       -- an unowned block that f does not take stays unowned
-      pub turn-free : (b : ℕ) → owned π v b ≡ false → (candidate π v′ f ≡ true → (i : ℕ) → i < size π v′ f → nth π v′ f i ≢ b) → owned π v′ b ≡ false
-      unfolding isFile
+      pub turn-free : (b : ℕ) → owned π v b ≡ false → (candidate π v′ f ≡ true → (k : ℕ) → present π v′ f k ≡ true → spot π v′ f k ≢ b) → owned π v′ b ≡ false
       turn-free b o m = go (owned π v′ b) refl
         where
           no : owned π v′ b ≡ true → (x : Bool) → eqb (fileOf π v′ b) f ≡ x → ⊥
           no p true q =
               let w = own π v′ b p in
               let z = eqb-true (fileOf π v′ b) f q in
-              m (subst (λ (y : ℕ). candidate π v′ y ≡ true) z (both-left _ _ (w .file))) (place π v′ b)
-              (subst (λ (y : ℕ). place π v′ b < size π v′ y) z (w .here)) (ap (λ (y : ℕ). nth π v′ y (place π v′ b)) (sym z) ∙ w .back)
-          no p false q = true≢false (sym (subst (λ (y : ℕ). owned π v y ≡ true) (kept-nth π v v′ g k i l ∙ u .back) (member-owned π v g c₀ (c g c₀) i l)) ∙ o)
-            where
-              g : ℕ
-              g = fileOf π v′ b
-
-              i : ℕ
-              i = place π v′ b
-
-              u : Own π v′ b (fileOf π v′ b) (place π v′ b)
-              u = own π v′ b p
-
-              n : fileOf π v′ b ≢ f
-              n = eqb-false (fileOf π v′ b) f q
-
-              c₀ : candidate π v (fileOf π v′ b) ≡ true
-              c₀ = t .cands _ n ∙ both-left _ _ (u .file)
-
-              k : Shape π v v′ (fileOf π v′ b)
-              k = t .others _ n c₀ .shape
-
-              l : place π v′ b < size π v (fileOf π v′ b)
-              l = subst (λ (y : ℕ). place π v′ b < y) (sym (kept-size π v v′ _ k)) (u .here)
+              m (subst (λ (y : ℕ). candidate π v′ y ≡ true) z (file-candidate π v′ _ (w .file))) (key π v′ b)
+              (subst (λ (y : ℕ). present π v′ y (key π v′ b) ≡ true) z (w .here)) (ap (λ (y : ℕ). spot π v′ y (key π v′ b)) (sym z) ∙ w .back)
+          no p false q =
+              let u = own π v′ b p in
+              let n = eqb-false (fileOf π v′ b) f q in
+              let h = t .cands _ n ∙ file-candidate π v′ _ (u .file) in
+              let s = t .others _ n h .shape in
+              let l = kept-present π v v′ _ s (key π v′ b) ∙ u .here in
+              true≢false (sym (subst (λ (y : ℕ). owned π v y ≡ true) (kept-spot π v v′ _ s (key π v′ b) l ∙ u .back) (member-owned π v _ h (c _ h) (key π v′ b) l)) ∙ o)
 
           go : (x : Bool) → owned π v′ b ≡ x → x ≡ false
           go true p = absurd (no p _ refl)

@@ -1,204 +1,157 @@
--- What the tests of the index give, and the ways through the code that makes them. Assumes nothing.
-use mathlib.Core.Path.{_≡_, refl, sym, ap, _∙_}
-use mathlib.Core.Logic.{⊎-elim}
+-- What an index that can be read and an open file give the code that reads them, and where a shown block lies. Assumes nothing.
+use mathlib.Core.Path.{_≡_, refl, sym, ap, ap₂, _∙_, subst}
+use mathlib.Core.Logic.{_⊎_, inl, inr, _≢_}
 use mathlib.Core.List.{List, [], _∷_}
-use mathlib.Core.Bool.{Bool, true, false, _&&_}
-use Prim.Native.Nat.{ℕ, suc, _+_, _-_, _*_, _/_, _≤_, _<_}
-use native.Mathlib.Nat.{eq-or-lt-of-le}
-use native.Mathlib.Numerals.{add-one}
+use mathlib.Core.Bool.{Bool, true, false}
+use Prim.Native.Nat.{ℕ, _+_, _-_, _*_, _/_, _%_, _≤_, _<_}
 use native.Mathlib.Omega.{arith}
-use lib.Dec.{ltb, leb, eqb}
-use lib.IntN.{ℤ}
+use lib.Dec.{ltb, eqb}
 use lib.ListN.{length}
-use borrow.Author.Needs.{needs}
-use borrow.Author.Tests.{leb-true, ltb-true, lt-ltb, le-ltb, eq-eqb, ne-eqb, eqb-true, eqb-false}
-use Rattle.base.specs.Tests.{pick, every, all}
-use Rattle.base.specs.Laws.{all-at, all-of, both-left, both-right, every-at}
-use Rattle.drive.specs.Address.{ldaBlock}
+use borrow.Author.Tests.{ltb-true, eqb-true, eqb-false}
+use Rattle.base.specs.Tests.{every}
+use Rattle.drive.specs.Address.{pda, ldaBlock}
 use Rattle.image.specs.View.{View, pair}
 use Rattle.image.specs.Image.{view}
-use Rattle.image.specs.Signed.{signed}
-use Rattle.volume.specs.Words.{dataOffset, fibNumber, lastBlockAt}
-use Rattle.volume.specs.Files.{Partition, partitionOf, reach, ptrsFor, ptr, entry, name, len, ptrs, nth, candidate, wellFormed, ptrTest, dataTest, indexed, nilTest, restNil, numbered}
+use Rattle.volume.specs.Words.{dataOffset, relativeAt, slotAt, directAt, indirectAt}
+use Rattle.volume.specs.Keys.{home, reach, number, up, first, low}
+use Rattle.volume.specs.KeyLaws.{first-data, first-pointer, asked-closed, row-ptr, row-direct, row-data}
+use Rattle.volume.specs.Files.{Partition, partitionOf, inside, isLda, serial, candidate, wellFormed, named, len, entry, spot, present, name, above, below, least}
+use Rattle.volume.specs.Index.{wf-of, here-of, spot-home, spot-step, entry-at, entry-fib, present-high, present-low}
+use Rattle.volume.specs.Order.{above-is, below-is, least-present}
+use Rattle.volume.specs.Closed.{spot-direct, spot-data}
 use Rattle.volume.specs.Answers.{partition, shown, showIn}
-use Rattle.volume.specs.Steps.{every-no}
-use Rattle.volume.specs.Reads.{names-in, Lies, lies, candidate-in}
+use Rattle.volume.specs.Reads.{inside-of, Lies, lies, candidate-in}
 use Rattle.volume.specs.declared.Part.{Part}
 use Rattle.volume.specs.declared.Part.the-variants as part
 use Rattle.volume.specs.declared.Outcome.the-variants.{Done}
-use Rattle.inspect.specs.Numbers.{lastGood, blocksTo, last-good, blocks-to}
-use Rattle.inspect.specs.Parts.{Opened}
+use Rattle.inspect.specs.Form.{names, named-member, asked-named, low-here, ends, formed-index}
+use Rattle.inspect.specs.Parts.{Opened, Readable}
+
+-- ---- an entry, by what it names
 
 module _ (π : Partition) (v : View) (f : ℕ) where
-  pub index-data : (p k r : ℕ) → indexed π v f p k ≡ true → r < k → dataTest π v f r ≡ true
-  unfolding indexed
-  index-data p k r h l = all-at k (dataTest π v f) (both-right _ _ h) r l
+  named-is : (k : ℕ) → k ≢ home → named π v f k ≡ names π v f (entry π v f k) (number k)
+  unfolding named names
+  named-is k n =
+      ap (λ (b : ℕ). every (isLda (π .drive) (entry π v f k) b ∷ inside π b ∷ eqb (serial π v b) (pda (π .drive) f) ∷ eqb (v b relativeAt) (number k) ∷ []))
+      (spot-step π v f k n)
 
-  pub index-ptr : (p k i : ℕ) → indexed π v f p k ≡ true → i < p → ptrTest π v f i ≡ true
-  unfolding indexed
-  index-ptr p k i h l = all-at p (ptrTest π v f) (both-left _ _ h) i l
+  -- pointer block i; block r below 64; entry j of pointer block i
+  pub named-ptr : (i : ℕ) → i < 32 → named π v f (288 - i) ≡ names π v f (pair v f (indirectAt i)) (number (288 - i))
+  named-ptr i l =
+      let w = row-ptr i l in
+      named-is (288 - i) (λ z. omega arith) ∙ ap (λ (x : ℕ). names π v f x (number (288 - i))) (entry-fib π v f (288 - i) (w .0) ∙ ap (pair v f) (w .1))
 
-  pub ptr-in : (i : ℕ) → ptrTest π v f i ≡ true → ptr π v f i ≤ π .e
-  unfolding ptr
-  ptr-in i h = names-in π v f _ _ h
+  pub named-direct : (r : ℕ) → r < 64 → named π v f (292 + r) ≡ names π v f (pair v f (directAt r)) (number (292 + r))
+  named-direct r l =
+      let w = row-direct r l in
+      named-is (292 + r) (λ z. omega arith) ∙ ap (λ (x : ℕ). names π v f x (number (292 + r))) (entry-fib π v f (292 + r) (w .0) ∙ ap (pair v f) (w .1))
 
-  pub name-is : (p k r x y : ℕ) → indexed π v f p k ≡ true → r < k → x ≡ entry π v f r → y ≡ ldaBlock (π .drive) x → (y ≡ name π v f r) × (y ≤ π .e)
-  unfolding name
-  name-is p k r x y h l q j = let z : y ≡ ldaBlock (π .drive) (entry π v f r) = j ∙ ap (ldaBlock (π .drive)) q in (z, rw z (names-in π v f _ _ (index-data p k r h l)))
+  pub named-entry : (i j : ℕ) → j < 128 → named π v f (292 + (64 + 128 * i + j)) ≡ names π v f (pair v (spot π v f (288 - i)) (slotAt j)) (number (356 + 128 * i + j))
+  named-entry i j l =
+      let r = 64 + 128 * i + j in
+      let w = row-data r (omega arith) in
+      let a : 288 - (r - 64) / 128 ≡ 288 - i = omega arith in
+      let b : 8 + 2 * ((r - 64) % 128) ≡ 8 + 2 * j = omega arith in
+      named-is (292 + r) (λ z. omega arith)
+      ∙ ap₂ (names π v f) (entry-at π v f (292 + r) ∙ ap₂ (λ (k x : ℕ). pair v (spot π v f k) x) (w .0 ∙ a) (w .1 ∙ b)) (ap number (let c : 292 + r ≡ 356 + 128 * i + j = omega arith in c))
 
-  -- the pointer block of r is one of those tested
-  pub ptr-of : (p k r : ℕ) → p ≡ ptrsFor k → indexed π v f p k ≡ true → r < k → 64 ≤ r → ptr π v f ((r - 64) / 128) ≤ π .e
-  unfolding ptrsFor
-  ptr-of p k r q h l m = ptr-in ((r - 64) / 128) (index-ptr p k ((r - 64) / 128) h (omega arith))
+  -- the block of a key, by the entry that code reads
+  pub spot-far : (k : ℕ) → 355 < k → spot π v f k ≡ ldaBlock (π .drive) (pair v (spot π v f (288 - (k - 356) / 128)) (slotAt ((k - 356) % 128)))
+  spot-far k l =
+      let z : k ≡ 292 + (k - 292) = omega arith in
+      let y : k - 292 - 64 ≡ k - 356 = omega arith in
+      ap (spot π v f) z ∙ spot-data π v f (k - 292) (omega arith)
+      ∙ ap (λ (x : ℕ). ldaBlock (π .drive) (pair v (spot π v f (288 - x / 128)) (slotAt (x % 128)))) y
 
-pub ptrs-few : (p k : ℕ) → p ≡ ptrsFor k → k ≤ 4160 → p ≤ 32
-unfolding ptrsFor
-ptrs-few p k q h = omega arith
+  pub spot-near : (k : ℕ) → home < k → k ≤ 355 → spot π v f k ≡ ldaBlock (π .drive) (pair v f (directAt (k - 292)))
+  spot-near k a b = let z : k ≡ 292 + (k - 292) = omega arith in ap (spot π v f) z ∙ spot-direct π v f (k - 292) (omega arith)
 
-pub ptrs-below : (p k i : ℕ) → p ≡ ptrsFor k → i < p → 64 + 128 * i < k
-unfolding ptrsFor
-ptrs-below p k i q h = omega arith
-
-pub ptrs-enough : (p k : ℕ) → p ≡ ptrsFor k → k ≤ 64 + 128 * p
-unfolding ptrsFor
-ptrs-enough p k q = omega arith
-
-pub least-reach : (k a n j r : ℕ) → n ≡ pick (ltb (k - a) 128) (k - a) 128 → n ≤ j → r < k → r < a + 128 → r < a + j
-least-reach k a n j r q l h u = go (ltb (k - a) 128) refl
-  where
-    go : (t : Bool) → ltb (k - a) 128 ≡ t → r < a + j
-    go true z = let m : n ≡ k - a = q ∙ rw z in omega arith
-    go false z = let m : n ≡ 128 = q ∙ rw z in omega arith
-
--- the last negative number is a word
-pub low-small : (p : ℕ) → pick (eqb p 0) fibNumber (65533 - p) < 65536
-low-small p = go (eqb p 0)
-  where
-    go : (t : Bool) → pick t fibNumber (65533 - p) < 65536
-    go true = omega arith
-    go false = omega arith
-
--- ---- the walk that adds up the entries from k on
-
-eqb-sum : (a b : ℕ) → eqb (a + b) 0 ≡ (eqb b 0 && eqb a 0)
-eqb-sum a b = go (eqb b 0) refl (eqb a 0) refl
-  where
-    go : (t : Bool) → eqb b 0 ≡ t → (u : Bool) → eqb a 0 ≡ u → eqb (a + b) 0 ≡ (t && u)
-    go true p true q = eq-eqb (a + b) 0 (let x = eqb-true b 0 p in let y = eqb-true a 0 q in omega arith)
-    go true p false q = ne-eqb (a + b) 0 (λ z. eqb-false a 0 q (omega arith))
-    go false p u q = ne-eqb (a + b) 0 (λ z. eqb-false b 0 p (omega arith))
-
--- at i, which is past n only where k is
-pub record Nils (π : Partition) (v : View) (f w k n i sum : ℕ) : Type 0 where
-  pub is : eqb sum 0 ≡ all i (nilTest π v f w k)
-  pub small : sum ≤ 4294967295 * i
-  pub from : k ≤ i
-  pub past : n < i → i ≤ k
-
-nil-below : (π : Partition) (v : View) (f w k m : ℕ) → m ≤ k → all m (nilTest π v f w k) ≡ true
-nil-below π v f w k m h = all-of m (nilTest π v f w k) (λ j l. rw (lt-ltb j k (omega arith)))
-
-module _ {π : Partition} {v : View} {f w k n : ℕ} where
-  pub nil-starts : Nils π v f w k n k 0
-  nil-starts = record { is = sym (nil-below π v f w k k (omega arith)); small = omega arith; from = omega arith; past = λ h. omega arith }
-
-  module _ {i sum : ℕ} (g : Nils π v f w k n i sum) where
-    pub nil-next : {x : ℕ} → i < n → (x ≡ pair v f (w + 2 * i)) × (x < 4294967296) → Nils π v f w k n (i + 1) (sum + x)
-    unfolding all
-    nil-next {x} l q = record {
-      is = rw (add-one i, all, le-ltb i k (g .from), ← q .0, ← g .is) (eqb-sum sum x);
-      small = omega (arith, g .small, q .1);
-      from = omega (arith, g .from);
-      past = λ h. absurd (omega arith);
-    }
-
-    pub nil-end : n ≤ i → eqb sum 0 ≡ all n (nilTest π v f w k)
-    nil-end h = ⊎-elim (λ j. rw j (g .is)) (λ j. g .is ∙ nil-below π v f w k i (g .past j) ∙ sym (nil-below π v f w k n (let z = g .past j in omega arith))) (eq-or-lt-of-le h)
-
-pub ruleset nils = (nil-starts, nil-next, nil-end, needs)
+  pub spot-low : (k : ℕ) → k ≤ 288 → spot π v f (288 - (288 - k)) ≡ spot π v f k
+  spot-low k l = ap (spot π v f) (let z : 288 - (288 - k) ≡ k = omega arith in z)
 
 -- ---- an index that can be read
 
-module _ {π : Partition} {l : List ℕ} {f p k : ℕ} (o : Opened π l f p k) where
-  pub opened-ptrs : p ≡ ptrs π (view l) f
-  unfolding ptrs
-  opened-ptrs = o .is-ptrs ∙ ap ptrsFor (o .is-len)
+module _ {π : Partition} {l : List ℕ} {f : ℕ} (o : Readable π l f) where
+  -- a present key's block lies in the partition
+  read-in : (k : ℕ) → present π (view l) f k ≡ true → spot π (view l) f k ≤ π .e
+  read-in k p = go (eqb k home) refl
+    where
+      go : (t : Bool) → eqb k home ≡ t → spot π (view l) f k ≤ π .e
+      go true q = subst (λ (x : ℕ). x ≤ π .e) (sym (ap (spot π (view l) f) (eqb-true k home q) ∙ spot-home π (view l) f)) (o .here)
+      go false q =
+          let n = eqb-false k home q in
+          let m = asked-named π (view l) f (o .short) (o .good) k n (here-of π (view l) f k n p .asked) in
+          inside-of π (spot π (view l) f k) (named-member π (view l) f k m .ins) .1
 
-  pub opened-few : p ≤ 32
-  opened-few = ptrs-few p k (o .is-ptrs) (o .short)
+  pub read-is : (b k : ℕ) → present π (view l) f k ≡ true → b ≡ spot π (view l) f k → (b ≡ spot π (view l) f k) × (b ≤ π .e)
+  read-is b k p q = (q, rw q (read-in k p))
 
-  pub opened-ptr-in : (q : ℕ) → q < p → ptr π (view l) f q ≤ π .e
-  opened-ptr-in q h = ptr-in π (view l) f q (index-ptr π (view l) f p k q (o .good) h)
+  pub read-home : (k : ℕ) → k ≡ home → (f ≡ spot π (view l) f k) × (f ≤ π .e)
+  read-home k q = (sym (ap (spot π (view l) f) q ∙ spot-home π (view l) f), o .here)
 
-  -- the three cases of a place
-  pub nth-low : (i q : ℕ) → i < p → q ≡ p - suc i → ptr π (view l) f q ≡ nth π (view l) f i
-  unfolding nth
-  nth-low i q l j = rw (← opened-ptrs, lt-ltb i p l, nth, j)
+  -- what code asks of a present key and of its holder
+  pub read-most : (k : ℕ) → present π (view l) f k ≡ true → k ≤ 4451
+  read-most k p = omega (arith, present-high π (view l) f k p, o .short)
 
-  pub nth-mid : (i : ℕ) → i ≡ p → f ≡ nth π (view l) f i
-  unfolding nth
-  nth-mid i j = rw (← opened-ptrs, le-ltb i p (omega arith), eq-eqb i p j, nth)
+  pub read-pointer : (k : ℕ) → present π (view l) f k ≡ true → k < home → (257 ≤ k) × (k ≤ 288)
+  read-pointer k p m = at (asked-closed (len π (view l) f) k (o .short) a)
+    where
+      a : first k < len π (view l) f
+      a = here-of π (view l) f k (λ z. omega arith) p .asked
 
-  pub nth-high : (i r : ℕ) → p < i → r ≡ i - suc p → name π (view l) f r ≡ nth π (view l) f i
-  unfolding nth
-  nth-high i r l j = rw (← opened-ptrs, le-ltb i p (omega arith), ne-eqb i p (λ z. omega arith), nth, j)
+      at : ((low (len π (view l) f) ≤ k) × (k < 289)) ⊎ ((home ≤ k) × (k < 292 + len π (view l) f)) → (257 ≤ k) × (k ≤ 288)
+      at (inl x) = let s = o .short in let h = x .1 in (omega (arith, a, first-pointer k (omega arith)), omega arith)
+      at (inr x) = absurd (omega (arith, x .0))
 
--- a well formed file's index can be read
-pub wf-opened : {d : ℕ} {l : List ℕ} {s e : ℕ} (f k p : ℕ) → Lies d l s e → f ≤ e → k ≡ len (partitionOf d s e) (view l) f → p ≡ ptrsFor k
-    → wellFormed (partitionOf d s e) (view l) f ≡ true → Opened (partitionOf d s e) l f p k
-unfolding wellFormed ptrs
-wf-opened f k p i h hk hp w = record {
-  lies = i;
-  here = h;
-  short = rw hk (leb-true _ _ (every-at _ w 0));
-  is-len = hk;
-  is-ptrs = hp;
-  good = rw (hp, hk) (every-at _ w 1);
-}
+  pub read-holder : (k : ℕ) → present π (view l) f k ≡ true → 355 < k → spot π (view l) f (288 - (k - 356) / 128) ≤ π .e
+  read-holder k p m =
+      let z : 292 + (k - 292) ≡ k = omega arith in
+      let y : 288 - (k - 292 - 64) / 128 ≡ 288 - (k - 356) / 128 = omega arith in
+      let u : up k ≡ 288 - (k - 356) / 128 = ap up (sym z) ∙ row-data (k - 292) (omega arith) .0 ∙ y in
+      subst (λ (x : ℕ). spot π (view l) f x ≤ π .e) u (read-in (up k) (here-of π (view l) f k (λ z. omega arith) p .held))
 
--- ---- the ways through `well_formed`, which reads L, that is the word w, and from it k and p
+  -- the last and the first of the links
+  pub read-last : (n : ℕ) → n ≡ len π (view l) f → present π (view l) f (home + n) ≡ true
+  read-last n q = rw q (ends π (view l) f (o .short) (o .good))
 
-module _ (π : Partition) (v : View) (f : ℕ) (z : ℤ) (hz : z ≡ signed (v f lastBlockAt)) (small : v f lastBlockAt < 65536) where
-  last-is : lastGood z ≡ leb (len π v f) reach
-  unfolding len
-  last-is = ap lastGood hz ∙ last-good (v f lastBlockAt) small
+  pub read-low : (n k : ℕ) → n ≡ len π (view l) f → k ≡ low n → present π (view l) f k ≡ true
+  read-low n k q r = rw (r, q) (low-here π (view l) f (o .short) (o .good))
 
-  pub wf-long : lastGood z ≡ false → false ≡ wellFormed π v f
-  unfolding wellFormed
-  wf-long h = sym (every-no _ 0 (sym last-is ∙ h))
+-- ---- an open file
 
-  module _ (good : lastGood z ≡ true) (k p : ℕ) (hk : k ≡ blocksTo z) (hp : p ≡ ptrsFor k) where
-    pub len-is : k ≡ len π v f
-    unfolding len
-    len-is = hk ∙ ap blocksTo hz ∙ blocks-to (v f lastBlockAt) small (ap lastGood (sym hz) ∙ good)
+-- a well formed file of a good partition is open
+pub wf-opened : {d : ℕ} {l : List ℕ} {s e : ℕ} (f : ℕ) → Lies d l s e → f ≤ e → wellFormed (partitionOf d s e) (view l) f ≡ true → Opened (partitionOf d s e) l f
+wf-opened f i h w = record { lies = i; here = h; formed = w }
 
-    pub ptrs-is : p ≡ ptrs π v f
-    unfolding ptrs
-    ptrs-is = hp ∙ ap ptrsFor len-is
+module _ {π : Partition} {l : List ℕ} {f : ℕ} (o : Opened π l f) where
+  pub opened-few : len π (view l) f ≤ 4160
+  opened-few = wf-of π (view l) f (o .formed) .short
 
-    pub wf-index : {r : Bool} → r ≡ indexed π v f p k → r ≡ false → false ≡ wellFormed π v f
-    unfolding wellFormed
-    wf-index q t = sym (every-no _ 1 (rw (len-is, ptrs-is) at (sym q ∙ t)))
+  -- block r below L + 1 is present
+  pub opened-data : (r : ℕ) → r < len π (view l) f → present π (view l) f (292 + r) ≡ true
+  opened-data r h = wf-of π (view l) f (o .formed) .full (292 + r) (omega (arith, first-data (292 + r) (omega arith)))
 
-    pub wf-nil : {r : Bool} → r ≡ restNil π v f p k → r ≡ false → false ≡ wellFormed π v f
-    unfolding wellFormed
-    wf-nil q t = sym (every-no _ 2 (rw (len-is, ptrs-is) at (sym q ∙ t)))
+  -- its index can be read
+  pub opened-read : Readable π l f
+  opened-read = record { lies = o .lies; here = o .here; short = opened-few; good = formed-index π (view l) f (o .formed) }
 
-    pub wf-rest : {r : Bool} (last top : ℕ) → indexed π v f p k ≡ true → restNil π v f p k ≡ true → last ≡ nth π v f (p + k) → top ≡ nth π v f 0
-        → r ≡ numbered π v f p k last top → r ≡ wellFormed π v f
-    unfolding wellFormed every
-    wf-rest last top hi hn hl ht q = q ∙ rw (← len-is, ← ptrs-is, ← hl, ← ht, hi, hn, wellFormed) (end (leb k reach) (ap (λ (x : ℕ). leb x reach) len-is ∙ sym last-is ∙ good) (numbered π v f p k last top))
-      where
-        end : (a : Bool) → a ≡ true → (b : Bool) → b ≡ every (a ∷ true ∷ true ∷ b ∷ [])
-        end true h true = refl
-        end true h false = refl
-        end false h b = absurd (mathlib.Core.Bool.true≢false (sym h))
+  -- a present key's block lies in the partition
+  pub opened-in : (k : ℕ) → present π (view l) f k ≡ true → spot π (view l) f k ≤ π .e
+  opened-in = read-in opened-read
 
--- and then its index can be read
-pub wf-readable : {d : ℕ} {l : List ℕ} {s e : ℕ} (f : ℕ) (z : ℤ) (k p : ℕ) → Lies d l s e → f ≤ e → z ≡ signed (view l f 258) → view l f 258 < 65536
-    → lastGood z ≡ true → (k ≡ blocksTo z) × (k ≤ 4160) → p ≡ ptrsFor k → indexed (partitionOf d s e) (view l) f p k ≡ true → Opened (partitionOf d s e) l f p k
-wf-readable f z k p i h hz small good hk hp g =
-    record { lies = i; here = h; short = hk .1; is-len = len-is _ _ f z hz small good k p (hk .0) hp; is-ptrs = hp; good = g }
+  -- so are its neighbours and the first and the last of the links
+  pub opened-above : (k : ℕ) → present π (view l) f k ≡ true → (above π (view l) f k ≡ 0 → ⊥) → present π (view l) f (above π (view l) f k) ≡ true
+  opened-above k p n = above-is π (view l) f (o .formed) k (present-high π (view l) f k p) .hit n .0
+
+  pub opened-below : (k : ℕ) → present π (view l) f k ≡ true → (below π (view l) f k ≡ 0 → ⊥) → present π (view l) f (below π (view l) f k) ≡ true
+  opened-below k p n = below-is π (view l) f (o .formed) k (present-low π (view l) f k p) .hit n .0
+
+  pub opened-least : present π (view l) f (least π (view l) f) ≡ true
+  opened-least = least-present π (view l) f (o .formed) .1
+
+  pub opened-last : present π (view l) f (home + len π (view l) f) ≡ true
+  opened-last = wf-of π (view l) f (o .formed) .ends
 
 -- ---- show
 
@@ -221,10 +174,9 @@ shown-at d l s e f r at n z i h = go (candidate π v f) refl (wellFormed π v f)
     go true c true y true m true j =
         let k = rw (c, y, m, j, showIn) at h in
         let q : dataOffset (name π v f r) ≡ at = cc in
-        let x = wf-opened f _ _ i (candidate-in π v f c .1) refl refl y in
-        let o = name-is π v f _ _ r _ _ (x .good) (ltb-true _ _ j) refl refl in
+        let x = wf-opened f i (candidate-in π v f c .1) y in
         let w = i .within in
-        omega (arith, o .1)
+        omega (arith, opened-in x (292 + r) (opened-data x r (ltb-true _ _ j)))
 
 pub shown-in : (d : ℕ) (l : List ℕ) (s f r at n z : ℕ) → shown d l s f r ≡ Done at n z → at + 512 ≤ length l
 unfolding shown

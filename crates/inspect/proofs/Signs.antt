@@ -1,7 +1,7 @@
 -- Signed numbers of the code: what a conversion gives, and what a test of one says of the header word. Assumes nothing.
 use mathlib.Core.Path.{_≡_, refl, sym, ap, _∙_}
-use mathlib.Core.Bool.{Bool, true, false, true≢false}
-use Prim.Native.Nat.{ℕ, zero, suc, _+_, _-_, _≤_, _<_}
+use mathlib.Core.Bool.{Bool, true, false, cond, true≢false}
+use Prim.Native.Nat.{ℕ, suc, _+_, _-_, _%_, _≤_, _<_}
 use native.Mathlib.Omega.{arith}
 use lib.Dec.{ltb, eqb}
 use lib.IntN.{ℤ, pos, negsuc, _+ℤ_, _-ℤ_}
@@ -10,10 +10,18 @@ use mir.Syntax.{w16, w32}
 use mir.Val.{SFits, toZ, ofZ}
 use mir.ValLaws.{toZ-pos, toZ-ofZ}
 use mir.Facts.{sfits-widen}
-use borrow.Author.Tests.{lt-ltb, le-ltb, ltb-true, ltb-false, leb-true, eq-eqb, ne-eqb, eqb-true, le-leb}
+use borrow.Author.Tests.{lt-ltb, le-ltb, ltb-true, ltb-false, leb-true, eq-eqb, ne-eqb, eqb-true}
 use Rattle.image.specs.Signed.{signed, wordOf, signed-low, signed-high, word-signed, signed-word}
-use Rattle.volume.specs.Files.{placeOf}
+use Rattle.volume.specs.Keys.{keyOf, number}
 use Rattle.inspect.specs.Numbers.{lastGood, blocksTo}
+
+-- a word's number fits sixteen bits
+signed-fits : (w : ℕ) → SFits w16 (signed w)
+signed-fits w = go (ltb w 32768) refl
+  where
+    go : (t : Bool) → ltb w 32768 ≡ t → SFits w16 (signed w)
+    go true j = rw (← signed-low (ltb-true w 32768 j)) (record { sfits = ltb-true w 32768 j })
+    go false j = rw (← signed-high (ltb-false w 32768 j)) (record { sfits = (let l : 65535 - w < 32768 = omega (arith, ltb-false w 32768 j) in l) })
 
 -- a number that a call answered, passed on
 module _ (x : ℤ) (w : ℕ) (h : SFits w32 x) (q : x ≡ signed w) where
@@ -24,11 +32,7 @@ module _ (x : ℤ) (w : ℕ) (h : SFits w32 x) (q : x ≡ signed w) where
   passed-word l = ap wordOf passed ∙ word-signed w l
 
   pub passed-fits : SFits w16 (toZ w32 (ofZ w32 x))
-  passed-fits = rw passed (go (ltb w 32768) refl)
-    where
-      go : (t : Bool) → ltb w 32768 ≡ t → SFits w16 (signed w)
-      go true j = rw (← signed-low (ltb-true w 32768 j)) (record { sfits = ltb-true w 32768 j })
-      go false j = rw (← signed-high (ltb-false w 32768 j)) (record { sfits = (let l : 65535 - w < 32768 = omega (arith, ltb-false w 32768 j) in l) })
+  passed-fits = rw passed (signed-fits w)
 
 -- a test of a word's number with n
 bits-same : (a b : ℤ) → SFits w32 a → SFits w32 b → ofZ w32 a ≡ ofZ w32 b → a ≡ b
@@ -41,20 +45,28 @@ module _ (x n : ℤ) (w : ℕ) (q : x ≡ signed w) where
   pub number-not : SFits w16 n → (ofZ w32 x ≡ ofZ w32 n → ⊥) → false ≡ eqb w (wordOf n)
   number-not k e = sym (ne-eqb w (wordOf n) (λ z. e (ap (ofZ w32) (q ∙ ap signed z ∙ signed-word n k))))
 
--- -(a + 1) less i
-minus-less : (a i : ℕ) → i < 32768 → negsuc a -ℤ toZ w32 i ≡ negsuc (a + i)
-minus-less a i h = rw (toZ-pos w32 i (omega arith)) (go i)
+-- the relative number of a key
+number-less : (k : ℕ) → k < 33060 → toZ w32 k -ℤ pos 292 ≡ signed (number k)
+unfolding number
+number-less k h = rw (toZ-pos w32 k (omega arith)) (go (ltb k 292) refl)
   where
-    go : (i : ℕ) → negsuc a -ℤ pos i ≡ negsuc (a + i)
-    go zero = rw (lt-ltb 0 (suc a) (omega arith)) (ap negsuc (omega arith))
-    go (suc i) = ap negsuc (omega arith)
+    go : (t : Bool) → ltb k 292 ≡ t → cond t (negsuc (292 - suc k)) (pos (k - 292)) ≡ signed ((k + 65244) % 65536)
+    go true q =
+        let l = ltb-true k 292 q in
+        ap negsuc (let z : 292 - suc k ≡ 65535 - (k + 65244) % 65536 = omega arith in z) ∙ signed-high (omega arith)
+    go false q =
+        let l = ltb-false k 292 q in
+        ap pos (let z : k - 292 ≡ (k + 65244) % 65536 = omega arith in z) ∙ signed-low (omega arith)
 
-pub minus-fits : (a i : ℕ) → a < 32768 → i < 32768 → SFits w32 (negsuc a -ℤ toZ w32 i)
-minus-fits a i l h = rw (minus-less a i h) (record { sfits = omega arith })
+pub number-fits : (k : ℕ) → k < 33060 → SFits w32 (toZ w32 k -ℤ pos 292)
+number-fits k h = rw (number-less k h) (sfits-widen {w = w16} {w′ = w32} tt (signed-fits (number k)))
 
-pub minus-is : (a i w : ℕ) → a < 32768 → i < 32768 → w ≡ 65535 - (a + i) → a + i < 32768 → toZ w32 (ofZ w32 (negsuc a -ℤ toZ w32 i)) ≡ signed w
-minus-is a i w l h q m =
-    toZ-ofZ w32 _ (minus-fits a i l h) ∙ minus-less a i h ∙ ap negsuc (let z : a + i ≡ 65535 - w = omega arith in z) ∙ signed-high (omega arith)
+pub number-of : (k : ℕ) → k < 33060 → toZ w32 (ofZ w32 (toZ w32 k -ℤ pos 292)) ≡ signed (number k)
+number-of k h = toZ-ofZ w32 _ (number-fits k h) ∙ number-less k h
+
+pub number-small : (k : ℕ) → number k < 65536
+unfolding number
+number-small k = omega arith
 
 -- L from -1 to 4,159
 pub last-below : (l : ℤ) → SFits w32 l → ltZ (toZ w32 (ofZ w32 l)) (negsuc 0) ≡ true → false ≡ lastGood l
@@ -93,66 +105,51 @@ module _ (l : ℤ) (f : SFits w32 l) (g : lastGood l ≡ true) where
   pub next-is : toZ w32 (ofZ w32 (toZ w32 (ofZ w32 l) +ℤ pos 1)) ≡ pos (blocksTo l)
   next-is = toZ-ofZ w32 _ next-fits ∙ next
 
--- the place of a relative number
-pub record Data (n : ℤ) : Type 0 where
-  pub at : ℕ
-  pub less : at < 32768
-  pub it : n ≡ pos at
+-- the key of a relative number
+pub key-small : (w : ℕ) → keyOf w < 65536
+unfolding keyOf
+key-small w = omega arith
 
-pub record Below (n : ℤ) : Type 0 where
-  pub at : ℕ
-  pub less : at < 32768
-  pub it : n ≡ negsuc at
+sum-fits : (n : ℤ) → SFits w16 n → SFits w32 (n +ℤ pos 292)
+sum-fits (pos m) f = record { sfits = omega (arith, f .sfits) }
+sum-fits (negsuc m) f = go (ltb 292 (suc m))
+  where
+    go : (t : Bool) → SFits w32 (cond t (negsuc (suc m - 293)) (pos (292 - suc m)))
+    go true = record { sfits = omega (arith, f .sfits) }
+    go false = record { sfits = omega arith }
+
+sum-far : (n : ℤ) → SFits w16 n → ltZ n (negsuc 291) ≡ true → n +ℤ pos 292 +ℤ pos 65536 ≡ pos (keyOf (wordOf n))
+unfolding keyOf
+sum-far (pos m) f h = absurd (true≢false (sym h))
+sum-far (negsuc m) f h =
+    let l = ltb-true 291 m h in
+    let u : m < 32768 = f .sfits in
+    rw (lt-ltb 292 (suc m) (omega arith), le-ltb 65536 (suc (suc m - 293)) (omega arith)) (ap pos (omega arith))
+
+sum-near : (n : ℤ) → SFits w16 n → ltZ n (negsuc 291) ≡ false → n +ℤ pos 292 ≡ pos (keyOf (wordOf n))
+unfolding keyOf
+sum-near (pos m) f h = let u : m < 32768 = f .sfits in ap pos (omega arith)
+sum-near (negsuc m) f h = let l = ltb-false 291 m h in rw (le-ltb 292 (suc m) (omega arith)) (ap pos (omega arith))
 
 module _ (n : ℤ) (f : SFits w16 n) where
   pub self : toZ w32 (ofZ w32 n) ≡ n
   self = toZ-ofZ w32 n (sfits-widen {w = w16} {w′ = w32} tt f)
 
-  pub a-data : leZ (pos 0) (toZ w32 (ofZ w32 n)) ≡ true → Data n
-  a-data h = go n f (rw self at h)
-    where
-      go : (n : ℤ) → SFits w16 n → leZ (pos 0) n ≡ true → Data n
-      go (pos m) f h = record { at = m; less = f .sfits; it = refl }
-      go (negsuc m) f h = absurd (true≢false (sym h))
+  pub key-fits : SFits w32 (toZ w32 (ofZ w32 n) +ℤ pos 292)
+  key-fits = rw self (sum-fits n f)
 
-  pub a-below : leZ (pos 0) (toZ w32 (ofZ w32 n)) ≡ false → Below n
-  a-below h = go n f (rw self at h)
-    where
-      go : (n : ℤ) → SFits w16 n → leZ (pos 0) n ≡ false → Below n
-      go (pos m) f h = absurd (true≢false (sym (le-leb 0 m (omega arith)) ∙ h))
-      go (negsuc m) f h = record { at = m; less = f .sfits; it = refl }
+  sum-is : toZ w32 (ofZ w32 (toZ w32 (ofZ w32 n) +ℤ pos 292)) ≡ n +ℤ pos 292
+  sum-is = toZ-ofZ w32 _ key-fits ∙ ap (λ (z : ℤ). z +ℤ pos 292) self
 
-  module _ (p : ℕ) where
-    pub place-fib : ofZ w32 n ≡ ofZ w32 (negsuc 0) → p ≡ placeOf p (wordOf n)
-    unfolding placeOf
-    place-fib h = let z : n ≡ negsuc 0 = bits-same n (negsuc 0) (sfits-widen {w = w16} {w′ = w32} tt f) (record { sfits = omega arith }) h in rw z
+  pub near-key : ltZ (toZ w32 (ofZ w32 n)) (negsuc 291) ≡ false → toZ w32 (ofZ w32 (toZ w32 (ofZ w32 n) +ℤ pos 292)) ≡ pos (keyOf (wordOf n))
+  near-key h = sum-is ∙ sum-near n f (rw self at h)
 
-    pub place-data : (d : Data n) → p + d .at + 1 ≡ placeOf p (wordOf n)
-    unfolding placeOf
-    place-data d = let l = d .less in rw (d .it, ne-eqb (d .at) 65535 (λ z. omega arith), lt-ltb (d .at) 32768 l) (omega arith)
+  module _ (h : ltZ (toZ w32 (ofZ w32 n)) (negsuc 291) ≡ true) where
+    far-sum : toZ w32 (ofZ w32 (toZ w32 (ofZ w32 n) +ℤ pos 292)) +ℤ pos 65536 ≡ pos (keyOf (wordOf n))
+    far-sum = ap (λ (z : ℤ). z +ℤ pos 65536) sum-is ∙ sum-far n f (rw self at h)
 
-    module _ (b : Below n) (o : ofZ w32 n ≡ ofZ w32 (negsuc 0) → ⊥) where
-      not-fib : b .at ≡ 0 → ⊥
-      not-fib z = o (ap (ofZ w32) (b .it ∙ ap negsuc z))
+    pub far-fits : SFits w32 (toZ w32 (ofZ w32 (toZ w32 (ofZ w32 n) +ℤ pos 292)) +ℤ pos 65536)
+    far-fits = rw far-sum (record { sfits = omega (arith, key-small (wordOf n)) })
 
-      pub place-below : p - suc (b .at - 3) ≡ placeOf p (wordOf n)
-      unfolding placeOf
-      place-below =
-          let l = b .less in
-          rw (b .it, ne-eqb (65535 - b .at) 65535 (λ z. not-fib (omega arith)), le-ltb (65535 - b .at) 32768 (omega arith)) (omega arith)
-
-      pub place-odd : ltZ (negsuc 3) (toZ w32 (ofZ w32 n)) ≡ true → p - 1 ≡ placeOf p (wordOf n)
-      place-odd h = let u : b .at < 3 = ltb-true (b .at) 3 (rw (self, b .it) at h) in (let z : p - 1 ≡ p - suc (b .at - 3) = omega arith in z) ∙ place-below
-
-    module _ (b : Below n) (h : ltZ (negsuc 3) (toZ w32 (ofZ w32 n)) ≡ false) where
-      pub far : 3 ≤ b .at
-      far = ltb-false (b .at) 3 (rw (self, b .it) at h)
-
-      gap : negsuc 3 -ℤ toZ w32 (ofZ w32 n) ≡ pos (b .at - 3)
-      gap = rw (self, b .it, le-ltb (suc (b .at)) 4 (let u = far in omega arith)) (ap pos (omega arith))
-
-      pub gap-fits : SFits w32 (negsuc 3 -ℤ toZ w32 (ofZ w32 n))
-      gap-fits = rw gap (record { sfits = (let l = b .less in omega arith) })
-
-      pub gap-is : toZ w32 (ofZ w32 (negsuc 3 -ℤ toZ w32 (ofZ w32 n))) ≡ pos (b .at - 3)
-      gap-is = toZ-ofZ w32 _ gap-fits ∙ gap
+    pub far-key : toZ w32 (ofZ w32 (toZ w32 (ofZ w32 (toZ w32 (ofZ w32 n) +ℤ pos 292)) +ℤ pos 65536)) ≡ pos (keyOf (wordOf n))
+    far-key = toZ-ofZ w32 _ far-fits ∙ far-sum

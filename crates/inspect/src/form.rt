@@ -4,9 +4,12 @@ ghost use Prim.Native.Nat.{_+_, _*_, _≤_, _<_};
 ghost use lib.ListN.{length};
 ghost use Rattle.base.specs.Tests.{all};
 ghost use Rattle.image.specs.Image.{view};
-ghost use Rattle.volume.specs.Files.{partitionOf, nilTest, restNil, numbered, wellFormed};
+ghost use Rattle.volume.specs.Files.{partitionOf, len, wellFormed};
 ghost use Rattle.volume.specs.Reads.{Lies};
+ghost use Rattle.inspect.specs.Form.{nilFrom, nilsGood, numbersGood};
+ghost use Rattle.inspect.specs.Parts.{Readable};
 use crate::index;
+use crate::keys;
 use crate::numbers;
 
 // Words of a file block.
@@ -30,18 +33,9 @@ const LOW_ADDRESS: usize = 262;
 
 // Whether of the n entries from word w on those from k on are nil: whether they add up to 0. With no way out of the loop the
 // compiler reads several at a time.
-fn nil_from(
-    img: &[u8],
-    drive: usize,
-    s: usize,
-    e: usize,
-    f: usize,
-    w: usize,
-    k: usize,
-    n: usize,
-) -> bool
+fn nil_from(img: &[u8], f: usize, w: usize, k: usize, n: usize) -> bool
     requires { ⌜ (528 * f + 528 ≤ length (now img)) × (w + 2 * n < 263) ⌝ }
-    ensures { λ a. ⌜ a ≡ all n (nilTest (partitionOf drive s e) (view (now (img .entry))) f w k) ⌝ }
+    ensures { λ a. ⌜ a ≡ all n (nilFrom (view (now (img .entry))) f w k) ⌝ }
 {
     let mut sum: usize = 0;
     for i in k..n {
@@ -50,15 +44,15 @@ fn nil_from(
     sum == 0
 }
 
-// Whether the entries of the index that p pointer blocks and k blocks do not need are nil.
-fn rest_nil(img: &[u8], drive: usize, s: usize, e: usize, f: usize, p: usize, k: usize) -> bool
-    requires { ⌜ 528 * f + 528 ≤ length (now img) ⌝ }
-    ensures { λ a. ⌜ a ≡ restNil (partitionOf drive s e) (view (now (img .entry))) f p k ⌝ }
+// Whether the entries of the FIB that n blocks do not need are nil.
+fn nils_good(img: &[u8], f: usize, n: usize) -> bool
+    requires { ⌜ (528 * f + 528 ≤ length (now img)) × (n ≤ 4160) ⌝ }
+    ensures { λ a. ⌜ a ≡ nilsGood (view (now (img .entry))) f n ⌝ }
 {
-    if !nil_from(img, drive, s, e, f, DIRECT, k, 64) {
+    if !nil_from(img, f, DIRECT, n, 64) {
         return false;
     }
-    if !nil_from(img, drive, s, e, f, INDIRECT, p, 32) {
+    if !nil_from(img, f, INDIRECT, drive::less(289, keys::low(n)), 32) {
         return false;
     }
     if image::pair(img, f, DOUBLE) != 0 {
@@ -67,32 +61,24 @@ fn rest_nil(img: &[u8], drive: usize, s: usize, e: usize, f: usize, p: usize, k:
     image::pair(img, f, SECOND_DOUBLE) == 0
 }
 
-// Whether the numbers and addresses of f are those of its p pointer blocks and k blocks, the last in link order `last` and the
-// first `top`.
-fn numbered(
-    img: &[u8],
-    drive: usize,
-    s: usize,
-    e: usize,
-    f: usize,
-    p: usize,
-    k: usize,
-    last: usize,
-    top: usize,
-) -> bool
-    requires { ⌜ (528 * f + 528 ≤ length (now img)) × (p ≤ 32) × (k ≤ 4160) × (last < 69552) × (top < 69552) ⌝ }
-    ensures { λ r. ⌜ r ≡ numbered (partitionOf drive s e) (view (now (img .entry))) f p k last top ⌝ }
+// Whether the numbers and addresses of f, whose index is good, are those of its n blocks.
+fn numbers_good(img: &[u8], drive: usize, s: usize, e: usize, f: usize, n: usize) -> bool
+    requires { ⌜ (Readable (partitionOf drive s e) (now img) f) × (n ≡ len (partitionOf drive s e) (view (now img)) f) ⌝ }
+    ensures { λ r. ⌜ r ≡ numbersGood (partitionOf drive s e) (view (now (img .entry))) f n ⌝ }
 {
-    if image::word(img, f, IN_USE) != p + k + 1 {
+    if image::word(img, f, IN_USE) != keys::size_of(n) {
         return false;
     }
-    if image::pair(img, f, LAST_ADDRESS) != drive::lda(drive, last) {
+    let last = index::at_key(img, drive, s, e, f, keys::HOME + n);
+    if !crate::is_lda(drive, image::pair(img, f, LAST_ADDRESS), last) {
         return false;
     }
-    if !numbers::is_number(img, f, LOW_NUMBER, numbers::low_number(p)) {
+    let low = keys::low(n);
+    if !numbers::is_number(img, f, LOW_NUMBER, numbers::number_of(low)) {
         return false;
     }
-    image::pair(img, f, LOW_ADDRESS) == drive::lda(drive, top)
+    let top = index::at_key(img, drive, s, e, f, low);
+    crate::is_lda(drive, image::pair(img, f, LOW_ADDRESS), top)
 }
 
 // Whether f is well formed.
@@ -104,15 +90,12 @@ pub fn well_formed(img: &[u8], drive: usize, s: usize, e: usize, f: usize) -> bo
     if !numbers::last_good(l) {
         return false;
     }
-    let k = numbers::blocks_to(l);
-    let p = index::ptrs_for(k);
-    if !index::index_good(img, drive, s, e, f, p, k) {
+    let n = numbers::blocks_to(l);
+    if !index::index_good(img, drive, s, e, f, n) {
         return false;
     }
-    if !rest_nil(img, drive, s, e, f, p, k) {
+    if !nils_good(img, f, n) {
         return false;
     }
-    let last = index::nth(img, drive, s, e, f, p, k, p + k);
-    let top = index::nth(img, drive, s, e, f, p, k, 0);
-    numbered(img, drive, s, e, f, p, k, last, top)
+    numbers_good(img, drive, s, e, f, n)
 }

@@ -1,6 +1,7 @@
-// A file's index: whether its entries name the right blocks, the block that an entry names, and the blocks in the order of their links.
+// A file's index: whether its entries name the right blocks, and the block of a key.
 ghost use mathlib.Core.Path.{_≡_};
-ghost use Prim.Native.Nat.{ℕ, suc, _+_, _-_, _*_, _≤_, _<_};
+ghost use mathlib.Core.Bool.{true};
+ghost use Prim.Native.Nat.{_+_, _-_, _*_, _≤_, _<_};
 ghost use lib.Dec.{ltb};
 ghost use lib.ListN.{length};
 ghost use mir.Syntax.{w16};
@@ -9,9 +10,11 @@ ghost use Rattle.base.specs.Tests.{pick, all};
 ghost use Rattle.drive.specs.Address.{pda};
 ghost use Rattle.image.specs.Image.{view};
 ghost use Rattle.image.specs.Signed.{wordOf};
-ghost use Rattle.volume.specs.Files.{partitionOf, len, ptrsFor, ptr, name, names, nth, ptrTest, dataTest, indexed};
+ghost use Rattle.volume.specs.Files.{partitionOf, len, spot, present, name};
 ghost use Rattle.volume.specs.Reads.{Lies};
-ghost use Rattle.inspect.specs.Parts.{Opened};
+ghost use Rattle.inspect.specs.Form.{names, pointerTest, dataTest, indexGood};
+ghost use Rattle.inspect.specs.Parts.{Opened, Readable};
+use crate::keys;
 use crate::numbers;
 
 // Words of a header, of a pointer block and of a file block.
@@ -31,14 +34,6 @@ pub fn len(img: &[u8], drive: usize, s: usize, e: usize, f: usize) -> usize
     ensures { λ k. ⌜ (k ≡ len (partitionOf drive s e) (view (now (img .entry))) f) × (k < 65536) ⌝ }
 {
     (image::word(img, f, LAST_BLOCK) + 1) % 65536
-}
-
-// How many pointer blocks k blocks need.
-pub fn ptrs_for(k: usize) -> usize
-    requires { ⌜ k < 65536 ⌝ }
-    ensures { λ p. ⌜ p ≡ ptrsFor k ⌝ }
-{
-    if k <= 64 { 0 } else { (k - 64 + 127) / 128 }
 }
 
 // Whether the LDA x is that of a block of the partition with f's address, `own`, as its serial and the relative number n.
@@ -62,7 +57,7 @@ fn names(
     if e < b {
         return false;
     }
-    if drive::lda(drive, b) != x {
+    if !crate::is_lda(drive, x, b) {
         return false;
     }
     if image::pair(img, b, SERIAL) != own {
@@ -71,10 +66,10 @@ fn names(
     numbers::has_number(img, b, n)
 }
 
-// The block that indirect entry i names.
+// The block that indirect entry i names: pointer block -(4+i).
 fn ptr(img: &[u8], drive: usize, s: usize, e: usize, f: usize, i: usize) -> usize
     requires { ⌜ (528 * f + 528 ≤ length (now img)) × (i < 32) ⌝ }
-    ensures { λ q. ⌜ (q ≡ ptr (partitionOf drive s e) (view (now (img .entry))) f i) × (q < 16777216) ⌝ }
+    ensures { λ q. ⌜ (q ≡ spot (partitionOf drive s e) (view (now (img .entry))) f (288 - i)) × (q < 16777216) ⌝ }
 {
     drive::lda_block(drive, image::pair(img, f, INDIRECT + 2 * i))
 }
@@ -82,10 +77,10 @@ fn ptr(img: &[u8], drive: usize, s: usize, e: usize, f: usize, i: usize) -> usiz
 // Whether indirect entry i names a pointer block of f with its number.
 fn ptr_named(img: &[u8], drive: usize, s: usize, e: usize, f: usize, own: usize, i: usize) -> bool
     requires { ⌜ (Lies drive (now img) s e) × (f ≤ e) × (own ≡ pda drive f) × (i < 32) ⌝ }
-    ensures { λ r. ⌜ r ≡ ptrTest (partitionOf drive s e) (view (now (img .entry))) f i ⌝ }
+    ensures { λ r. ⌜ r ≡ pointerTest (partitionOf drive s e) (view (now (img .entry))) f i ⌝ }
 {
     let x = image::pair(img, f, INDIRECT + 2 * i);
-    names(img, drive, s, e, f, own, x, numbers::pointer_number(i))
+    names(img, drive, s, e, f, own, x, numbers::number_of(288 - i))
 }
 
 // Whether direct entry r names block r of f.
@@ -102,7 +97,7 @@ fn direct_named(
     ensures { λ a. ⌜ a ≡ dataTest (partitionOf drive s e) (view (now (img .entry))) f r ⌝ }
 {
     let x = image::pair(img, f, DIRECT + 2 * r);
-    names(img, drive, s, e, f, own, x, image::signed(r))
+    names(img, drive, s, e, f, own, x, numbers::number_of(292 + r))
 }
 
 // Whether entry j of pointer block i, which is block q, names its block of f.
@@ -117,11 +112,20 @@ fn entry_named(
     i: usize,
     j: usize,
 ) -> bool
-    requires { ⌜ (Lies drive (now img) s e) × (q ≤ e) × (own ≡ pda drive f) × (q ≡ ptr (partitionOf drive s e) (view (now img)) f i) × (i < 32) × (j < 128) ⌝ }
+    requires { ⌜ (Lies drive (now img) s e) × (q ≤ e) × (own ≡ pda drive f) × (q ≡ spot (partitionOf drive s e) (view (now img)) f (288 - i)) × (i < 32) × (j < 128) ⌝ }
     ensures { λ a. ⌜ a ≡ dataTest (partitionOf drive s e) (view (now (img .entry))) f (64 + 128 * i + j) ⌝ }
 {
     let x = image::pair(img, q, SLOTS + 2 * j);
-    names(img, drive, s, e, f, own, x, image::signed(64 + 128 * i + j))
+    names(
+        img,
+        drive,
+        s,
+        e,
+        f,
+        own,
+        x,
+        numbers::number_of(356 + 128 * i + j),
+    )
 }
 
 // The smaller of two numbers.
@@ -144,23 +148,16 @@ fn direct_good(img: &[u8], drive: usize, s: usize, e: usize, f: usize, own: usiz
     true
 }
 
-// Whether every entry that k blocks and p pointer blocks need is good.
-pub fn index_good(
-    img: &[u8],
-    drive: usize,
-    s: usize,
-    e: usize,
-    f: usize,
-    p: usize,
-    k: usize,
-) -> bool
-    requires { ⌜ (Lies drive (now img) s e) × (f ≤ e) × (k ≤ 4160) × (p ≡ ptrsFor k) ⌝ }
-    ensures { λ a. ⌜ a ≡ indexed (partitionOf drive s e) (view (now (img .entry))) f p k ⌝ }
+// Whether every entry that n blocks need is good.
+pub fn index_good(img: &[u8], drive: usize, s: usize, e: usize, f: usize, n: usize) -> bool
+    requires { ⌜ (Lies drive (now img) s e) × (f ≤ e) × (n ≤ 4160) ⌝ }
+    ensures { λ a. ⌜ a ≡ indexGood (partitionOf drive s e) (view (now (img .entry))) f n ⌝ }
 {
     let own = drive::pda(drive, f);
-    if !direct_good(img, drive, s, e, f, own, least(k, 64)) {
+    if !direct_good(img, drive, s, e, f, own, least(n, 64)) {
         return false;
     }
+    let p = drive::less(289, keys::low(n));
     let mut good = true;
     'index: for i in 0..p {
         if !ptr_named(img, drive, s, e, f, own, i) {
@@ -168,8 +165,8 @@ pub fn index_good(
             break 'index;
         }
         let q = ptr(img, drive, s, e, f, i);
-        let n = least(k - (64 + 128 * i), 128);
-        for j in 0..n {
+        let m = least(n - (64 + 128 * i), 128);
+        for j in 0..m {
             if !entry_named(img, drive, s, e, f, own, q, i, j) {
                 good = false;
                 break 'index;
@@ -179,46 +176,37 @@ pub fn index_good(
     good
 }
 
-// Block r of f, which has p pointer blocks and k blocks.
-pub fn name(
-    img: &[u8],
-    drive: usize,
-    s: usize,
-    e: usize,
-    f: usize,
-    p: usize,
-    k: usize,
-    r: usize,
-) -> usize
-    requires { ⌜ (Opened (partitionOf drive s e) (now img) f p k) × (r < k) ⌝ }
-    ensures { λ b. ⌜ (b ≡ name (partitionOf drive s e) (view (now (img .entry))) f r) × (b ≤ e) ⌝ }
+// The block of key k of f, whose index is good.
+pub fn at_key(img: &[u8], drive: usize, s: usize, e: usize, f: usize, k: usize) -> usize
+    requires { ⌜ (Readable (partitionOf drive s e) (now img) f) × (present (partitionOf drive s e) (view (now img)) f k ≡ true) ⌝ }
+    ensures { λ b. ⌜ (b ≡ spot (partitionOf drive s e) (view (now (img .entry))) f k) × (b ≤ e) ⌝ }
 {
-    if r < 64 {
-        return drive::lda_block(drive, image::pair(img, f, DIRECT + 2 * r));
+    // Data blocks beyond the direct entries first: most keys are theirs.
+    if 355 < k {
+        let q = ptr(img, drive, s, e, f, (k - 356) / 128);
+        return drive::lda_block(drive, image::pair(img, q, SLOTS + 2 * ((k - 356) % 128)));
     }
-    let q = ptr(img, drive, s, e, f, (r - 64) / 128);
-    drive::lda_block(drive, image::pair(img, q, SLOTS + 2 * ((r - 64) % 128)))
-}
-
-// The block at place i of the links of f, which has p pointer blocks and k blocks.
-pub fn nth(
-    img: &[u8],
-    drive: usize,
-    s: usize,
-    e: usize,
-    f: usize,
-    p: usize,
-    k: usize,
-    i: usize,
-) -> usize
-    requires { ⌜ (Opened (partitionOf drive s e) (now img) f p k) × (i < p + suc k) ⌝ }
-    ensures { λ b. ⌜ (b ≡ nth (partitionOf drive s e) (view (now (img .entry))) f i) × (b ≤ e) ⌝ }
-{
-    if i < p {
-        return ptr(img, drive, s, e, f, p - 1 - i);
+    if keys::HOME < k {
+        return drive::lda_block(drive, image::pair(img, f, DIRECT + 2 * (k - 292)));
     }
-    if i <= p {
+    if k == keys::HOME {
         return f;
     }
-    name(img, drive, s, e, f, p, k, i - p - 1)
+    ptr(img, drive, s, e, f, 288 - k)
+}
+
+// The block of key k of f.
+pub fn spot(img: &[u8], drive: usize, s: usize, e: usize, f: usize, k: usize) -> usize
+    requires { ⌜ (Opened (partitionOf drive s e) (now img) f) × (present (partitionOf drive s e) (view (now img)) f k ≡ true) ⌝ }
+    ensures { λ b. ⌜ (b ≡ spot (partitionOf drive s e) (view (now (img .entry))) f k) × (b ≤ e) ⌝ }
+{
+    at_key(img, drive, s, e, f, k)
+}
+
+// Block r of f.
+pub fn name(img: &[u8], drive: usize, s: usize, e: usize, f: usize, r: usize) -> usize
+    requires { ⌜ (Opened (partitionOf drive s e) (now img) f) × (r < len (partitionOf drive s e) (view (now img)) f) ⌝ }
+    ensures { λ b. ⌜ (b ≡ name (partitionOf drive s e) (view (now (img .entry))) f r) × (b ≤ e) ⌝ }
+{
+    spot(img, drive, s, e, f, 292 + r)
 }

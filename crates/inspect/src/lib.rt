@@ -3,7 +3,7 @@ ghost use mathlib.Core.Path.{_≡_};
 ghost use Prim.Native.Nat.{_+_, _*_, _≤_, _<_};
 ghost use lib.ListN.{length};
 ghost use Rattle.image.specs.Image.{view};
-ghost use Rattle.volume.specs.Files.{partitionOf, candidate, isFile, isMalformed};
+ghost use Rattle.volume.specs.Files.{partitionOf, isLda, candidate, isFile, isMalformed};
 ghost use Rattle.volume.specs.Answers.{imageGood, partGood, partition, lowestMalformed};
 ghost use Rattle.volume.specs.Reads.{Lies};
 use base::Refusal;
@@ -12,14 +12,26 @@ use volume::Part;
 
 pub mod form; // form.rt: whether a file is well formed
 pub mod index; // index.rt: a file's index
+pub mod keys; // keys.rt: relative numbers in link order
 pub mod numbers; // numbers.rt: relative numbers
 
 pub use form::well_formed;
 pub use index::len;
 pub use index::name;
-pub use index::nth;
-pub use index::ptrs_for;
-pub use numbers::place_of;
+pub use index::spot;
+pub use keys::HOME;
+pub use keys::entries_of;
+pub use keys::has_key;
+pub use keys::low;
+pub use keys::next_key;
+pub use keys::prev_key;
+pub use keys::size_of;
+pub use numbers::blocks_to;
+pub use numbers::has_number;
+pub use numbers::is_number;
+pub use numbers::key_of;
+pub use numbers::last_good;
+pub use numbers::number_of;
 
 // Words of a header and of a PIB, and the relative number of a FIB.
 const SERIAL: usize = 0;
@@ -29,6 +41,14 @@ const PARTITION_START: usize = 126;
 const PARTITION_END: usize = 128;
 
 const FIB: i32 = -1;
+
+// Whether x is the LDA of block b.
+fn is_lda(drive: usize, x: usize, b: usize) -> bool
+    requires { ⌜ b < 4294967296 ⌝ }
+    ensures { λ r. ⌜ r ≡ isLda drive x b ⌝ }
+{
+    x == drive::lda(drive, b)
+}
 
 // Whether the drive is known and n bytes are an image for it.
 pub fn image_good(drive: usize, n: usize) -> bool
@@ -57,12 +77,12 @@ pub fn part_good(img: &[u8], drive: usize, n: usize, s: usize) -> bool
     if n <= s {
         return false;
     }
-    if image::pair(img, s, PARTITION_START) != drive::lda(drive, s) {
+    if !is_lda(drive, image::pair(img, s, PARTITION_START), s) {
         return false;
     }
     let x = image::pair(img, s, PARTITION_END);
     let e = drive::lda_block(drive, x);
-    if drive::lda(drive, e) != x {
+    if !is_lda(drive, x, e) {
         return false;
     }
     if e <= s {

@@ -6,11 +6,10 @@ ghost use lib.Dec.{eqb};
 ghost use lib.ListN.{length};
 ghost use mir.Syntax.{w16};
 ghost use mir.Val.{SFits};
-ghost use Rattle.base.specs.Tests.{pick};
 ghost use Rattle.image.specs.Image.{view};
 ghost use Rattle.image.specs.Signed.{signed, wordOf};
-ghost use Rattle.volume.specs.Words.{relativeAt, pointerNumber, fibNumber};
-ghost use Rattle.volume.specs.Files.{placeOf};
+ghost use Rattle.volume.specs.Words.{relativeAt};
+ghost use Rattle.volume.specs.Keys.{keyOf, number};
 ghost use Rattle.inspect.specs.Numbers.{lastGood, blocksTo};
 
 // The word of a header that holds the relative number.
@@ -36,38 +35,24 @@ pub fn has_number(img: &[u8], b: usize, n: i32) -> bool
     is_number(img, b, RELATIVE, n)
 }
 
-// The relative number of pointer block i: -4, -5, ..
-pub fn pointer_number(i: usize) -> i32
-    requires { ⌜ i < 32 ⌝ }
-    ensures { λ n. ⌜ n ≡ signed (pointerNumber i) ⌝ }
+// The relative number of key k.
+pub fn number_of(k: usize) -> i32
+    requires { ⌜ (1 ≤ k) × (k < 33060) ⌝ }
+    ensures { λ n. ⌜ n ≡ signed (number k) ⌝ }
 {
-    -4 - (i as i32)
+    (k as i32) - 292
 }
 
-// The last negative number of a file with p pointer blocks: that of its last pointer block, or the FIB's.
-pub fn low_number(p: usize) -> i32
-    requires { ⌜ p ≤ 32 ⌝ }
-    ensures { λ n. ⌜ n ≡ signed (pick (eqb p 0) fibNumber (65533 - p)) ⌝ }
+// The key of the relative number n.
+pub fn key_of(n: i32) -> usize
+    requires { ⌜ SFits w16 n ⌝ }
+    ensures { λ k. ⌜ (k ≡ keyOf (wordOf n)) × (k < 65536) ⌝ }
 {
-    if p == 0 { -1 } else { -3 - (p as i32) }
-}
-
-// The place in the links of the relative number n, in a file with p pointer blocks: -1 is the FIB, from 0 on they are data
-// blocks, and from -4 down pointer blocks, the last of them first. No block has the number -2 or -3.
-pub fn place_of(p: usize, n: i32) -> usize
-    requires { ⌜ (p ≤ 32) × (SFits w16 n) ⌝ }
-    ensures { λ r. ⌜ (r ≡ placeOf p (wordOf n)) × (r < 65536) ⌝ }
-{
-    if n == -1 {
-        return p;
+    if n < -292 {
+        ((n + 292) + 65536) as usize
+    } else {
+        (n + 292) as usize
     }
-    if 0 <= n {
-        return p + (n as usize) + 1;
-    }
-    if -4 < n {
-        return drive::less(p, 1);
-    }
-    drive::less(p, ((-4 - n) as usize) + 1)
 }
 
 // Whether L is from -1 to 4,159.

@@ -1,14 +1,16 @@
 // Who owns a block, and whether a file's blocks are linked in order: for partitions in which no candidate is malformed.
 ghost use mathlib.Core.Path.{_≡_};
 ghost use mathlib.Core.Bool.{true, false, _||_};
-ghost use Prim.Native.Nat.{ℕ, suc, _+_, _-_, _*_, _≤_, _<_};
+ghost use mathlib.Core.Logic.{_≢_};
+ghost use Prim.Native.Nat.{_+_, _*_, _≤_, _<_};
 ghost use lib.ListN.{length};
-ghost use lib.Dec.{eqb};
+ghost use lib.Dec.{ltb, eqb};
 ghost use Rattle.base.specs.Tests.{both, all};
 ghost use Rattle.image.specs.View.{pair};
 ghost use Rattle.image.specs.Image.{view};
-ghost use Rattle.volume.specs.Words.{nextAt, previousAt};
-ghost use Rattle.volume.specs.Files.{partitionOf, placeOf, owned, nth, nextOf, prevOf, linked, linkTest, tailTest};
+ghost use Rattle.volume.specs.Words.{relativeAt, nextAt, previousAt, slotAt};
+ghost use Rattle.volume.specs.Keys.{keyOf, child, first};
+ghost use Rattle.volume.specs.Files.{partitionOf, owned, len, present, above, below, link, linked};
 ghost use Rattle.volume.specs.Answers.{Unmarred};
 ghost use Rattle.volume.specs.Reads.{Lies};
 ghost use Rattle.inspect.specs.Parts.{Opened};
@@ -24,12 +26,12 @@ const PREVIOUS: usize = 6;
 
 const SLOTS: usize = 8;
 
-// The place that the relative number of block b has in a file with p pointer blocks.
-pub fn place_in(img: &[u8], b: usize, p: usize) -> usize
-    requires { ⌜ (528 * b + 528 ≤ length (now img)) × (p ≤ 32) ⌝ }
-    ensures { λ r. ⌜ (r ≡ placeOf p (view (now (img .entry)) b 2)) × (r < 65536) ⌝ }
+// The key that the relative number of block b is.
+pub fn key_in(img: &[u8], b: usize) -> usize
+    requires { ⌜ 528 * b + 528 ≤ length (now img) ⌝ }
+    ensures { λ k. ⌜ (k ≡ keyOf (view (now (img .entry)) b relativeAt)) × (k < 65536) ⌝ }
 {
-    inspect::place_of(p, image::signed_word(img, b, RELATIVE))
+    inspect::key_of(image::signed_word(img, b, RELATIVE))
 }
 
 // Whether block b is owned, where no candidate is malformed: its header leads to a file, and the file to this very block.
@@ -45,55 +47,39 @@ pub fn owned(img: &[u8], drive: usize, s: usize, e: usize, b: usize) -> bool
     if x != drive::pda(drive, f) {
         return false;
     }
-    let k = inspect::len(img, drive, s, e, f);
-    let p = inspect::ptrs_for(k);
-    let i = place_in(img, b, p);
-    if p + k < i {
+    let n = inspect::len(img, drive, s, e, f);
+    let k = key_in(img, b);
+    if !inspect::has_key(n, k) {
         return false;
     }
-    inspect::nth(img, drive, s, e, f, p, k, i) == b
+    inspect::spot(img, drive, s, e, f, k) == b
 }
 
-// The next link that place i of f should have.
-pub fn next_of(
-    img: &[u8],
-    drive: usize,
-    s: usize,
-    e: usize,
-    f: usize,
-    p: usize,
-    k: usize,
-    i: usize,
-) -> usize
-    requires { ⌜ (Opened (partitionOf drive s e) (now img) f p k) × (i < p + suc k) ⌝ }
-    ensures { λ r. ⌜ r ≡ nextOf (partitionOf drive s e) (view (now (img .entry))) f i ⌝ }
+// The link to key k of f, nil for none.
+fn link_to(img: &[u8], drive: usize, s: usize, e: usize, f: usize, k: usize) -> usize
+    requires { ⌜ (Opened (partitionOf drive s e) (now img) f) × (k ≢ 0 → present (partitionOf drive s e) (view (now img)) f k ≡ true) ⌝ }
+    ensures { λ r. ⌜ r ≡ link (partitionOf drive s e) (view (now (img .entry))) f k ⌝ }
 {
-    if i < p + k {
-        drive::pda(drive, inspect::nth(img, drive, s, e, f, p, k, i + 1))
-    } else {
-        0
+    if k == 0 {
+        return 0;
     }
+    drive::pda(drive, inspect::spot(img, drive, s, e, f, k))
 }
 
-// The previous link that place i of f should have.
-pub fn prev_of(
-    img: &[u8],
-    drive: usize,
-    s: usize,
-    e: usize,
-    f: usize,
-    p: usize,
-    k: usize,
-    i: usize,
-) -> usize
-    requires { ⌜ (Opened (partitionOf drive s e) (now img) f p k) × (i < p + suc k) ⌝ }
-    ensures { λ r. ⌜ r ≡ prevOf (partitionOf drive s e) (view (now (img .entry))) f i ⌝ }
+// The next link that key k of f should have; f has n blocks.
+pub fn next_of(img: &[u8], drive: usize, s: usize, e: usize, f: usize, n: usize, k: usize) -> usize
+    requires { ⌜ (Opened (partitionOf drive s e) (now img) f) × (n ≡ len (partitionOf drive s e) (view (now img)) f) × (present (partitionOf drive s e) (view (now img)) f k ≡ true) ⌝ }
+    ensures { λ r. ⌜ r ≡ link (partitionOf drive s e) (view (now (img .entry))) f (above (partitionOf drive s e) (view (now (img .entry))) f k) ⌝ }
 {
-    if i < 1 {
-        0
-    } else {
-        drive::pda(drive, inspect::nth(img, drive, s, e, f, p, k, i - 1))
-    }
+    link_to(img, drive, s, e, f, inspect::next_key(n, k))
+}
+
+// The previous link that key k of f should have.
+pub fn prev_of(img: &[u8], drive: usize, s: usize, e: usize, f: usize, n: usize, k: usize) -> usize
+    requires { ⌜ (Opened (partitionOf drive s e) (now img) f) × (n ≡ len (partitionOf drive s e) (view (now img)) f) × (present (partitionOf drive s e) (view (now img)) f k ≡ true) ⌝ }
+    ensures { λ r. ⌜ r ≡ link (partitionOf drive s e) (view (now (img .entry))) f (below (partitionOf drive s e) (view (now (img .entry))) f k) ⌝ }
+{
+    link_to(img, drive, s, e, f, inspect::prev_key(n, k))
 }
 
 // Whether block b has the links `next` and `previous`.
@@ -108,17 +94,42 @@ fn link_good(img: &[u8], b: usize, next: usize, previous: usize) -> bool
     }
 }
 
-// Whether every place of f has its links. At place i the walk has its block b, the address of b, and that of the block before.
-fn links_good(img: &[u8], drive: usize, s: usize, e: usize, f: usize, p: usize, k: usize) -> bool
-    requires { ⌜ Opened (partitionOf drive s e) (now img) f p k ⌝ }
-    ensures { λ r. ⌜ r ≡ all (p + suc k) (linkTest (partitionOf drive s e) (view (now (img .entry))) f) ⌝ }
+// Whether each entry of pointer block k, which is block q, is asked for by n blocks, or nil.
+fn tail_good(img: &[u8], n: usize, k: usize, q: usize) -> bool
+    requires { ⌜ (528 * q + 528 ≤ length (now img)) × (n ≤ 4160) × (k ≤ 288) ⌝ }
+    ensures { λ r. ⌜ r ≡ all 128 (λ i. ltb (first (child k (slotAt i))) n || eqb (pair (view (now (img .entry))) q (slotAt i)) 0) ⌝ }
 {
-    let last = p + k;
+    let used = inspect::entries_of(n, k);
+    for i in used..128 {
+        if image::pair(img, q, SLOTS + 2 * i) != 0 {
+            return false;
+        }
+    }
+    true
+}
+
+// Whether the blocks of f are linked in order, from key to key. At key k the walk has its block b, the address of b, and that of the
+// block before.
+pub fn linked(img: &[u8], drive: usize, s: usize, e: usize, f: usize) -> bool
+    requires { ⌜ Opened (partitionOf drive s e) (now img) f ⌝ }
+    ensures { λ r. ⌜ r ≡ linked (partitionOf drive s e) (view (now (img .entry))) f ⌝ }
+{
+    let n = inspect::len(img, drive, s, e, f);
+    let mut k = inspect::low(n);
     let mut before: usize = 0;
-    let mut b = inspect::nth(img, drive, s, e, f, p, k, 0);
+    let mut b = inspect::spot(img, drive, s, e, f, k);
     let mut own = drive::pda(drive, b);
-    for i in 0..last {
-        let c = inspect::nth(img, drive, s, e, f, p, k, i + 1);
+    loop {
+        if k < inspect::HOME {
+            if !tail_good(img, n, k, b) {
+                return false;
+            }
+        }
+        let j = inspect::next_key(n, k);
+        if j == 0 {
+            return link_good(img, b, 0, before);
+        }
+        let c = inspect::spot(img, drive, s, e, f, j);
         let next = drive::pda(drive, c);
         if !link_good(img, b, next, before) {
             return false;
@@ -126,56 +137,6 @@ fn links_good(img: &[u8], drive: usize, s: usize, e: usize, f: usize, p: usize, 
         before = own;
         own = next;
         b = c;
-    }
-    link_good(img, b, 0, before)
-}
-
-// Whether entry i of the last pointer block q is used, or nil.
-fn tail_good(
-    img: &[u8],
-    drive: usize,
-    s: usize,
-    e: usize,
-    f: usize,
-    p: usize,
-    k: usize,
-    q: usize,
-    i: usize,
-) -> bool
-    requires { ⌜ (Opened (partitionOf drive s e) (now img) f p k) × (1 ≤ p) × (q ≡ nth (partitionOf drive s e) (view (now img)) f 0) × (q ≤ e) × (i < 128) ⌝ }
-    ensures { λ r. ⌜ r ≡ tailTest (partitionOf drive s e) (view (now (img .entry))) f p k i ⌝ }
-{
-    if 64 + 128 * (p - 1) + i < k {
-        return true;
-    }
-    image::pair(img, q, SLOTS + 2 * i) == 0
-}
-
-// Whether the unused entries of the last pointer block are nil.
-fn tails_good(img: &[u8], drive: usize, s: usize, e: usize, f: usize, p: usize, k: usize) -> bool
-    requires { ⌜ Opened (partitionOf drive s e) (now img) f p k ⌝ }
-    ensures { λ r. ⌜ r ≡ (eqb p 0 || all 128 (tailTest (partitionOf drive s e) (view (now (img .entry))) f p k)) ⌝ }
-{
-    if p < 1 {
-        return true;
-    }
-    let q = inspect::nth(img, drive, s, e, f, p, k, 0);
-    for i in 0..128 {
-        if !tail_good(img, drive, s, e, f, p, k, q, i) {
-            return false;
-        }
-    }
-    true
-}
-
-// Whether the blocks of f are linked in order.
-pub fn linked(img: &[u8], drive: usize, s: usize, e: usize, f: usize, p: usize, k: usize) -> bool
-    requires { ⌜ Opened (partitionOf drive s e) (now img) f p k ⌝ }
-    ensures { λ r. ⌜ r ≡ linked (partitionOf drive s e) (view (now (img .entry))) f ⌝ }
-{
-    if links_good(img, drive, s, e, f, p, k) {
-        tails_good(img, drive, s, e, f, p, k)
-    } else {
-        false
+        k = j;
     }
 }

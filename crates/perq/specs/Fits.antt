@@ -13,14 +13,16 @@ use Rattle.base.specs.declared.Refusal.the-variants.{BadImage, BadPartition, Ma
 use Rattle.image.specs.View.{View}
 use Rattle.image.specs.Image.{view}
 use Rattle.image.specs.Saves.{words}
-use Rattle.volume.specs.Files.{Partition, partitionOf, inside, candidate, wellFormed, isFile, isMalformed, owned, sound, blockAt, len, ptrs, name, reach, freeHead, free, unowned}
-use Rattle.volume.specs.Owned.{wf-of, nth-data, data-in, member}
+use Rattle.volume.specs.Files.{Partition, partitionOf, inside, candidate, wellFormed, isFile, isMalformed, owned, sound, blockAt, len, name, freeHead, free, unowned}
+use Rattle.volume.specs.Keys.{reach}
+use Rattle.volume.specs.KeyLaws.{first-data}
+use Rattle.volume.specs.Index.{wf-of, member}
 use Rattle.volume.specs.Reads.{lies, inside-of, candidate-in}
 use Rattle.volume.specs.Steps.{lowest-at}
 use Rattle.volume.specs.Answers.{imageGood, partGood, endOf, partition, inPartition, lowest, lowestMalformed, fileAbove, foundFile, nextFile, tallied, checkClean, checkIn, checked, ofFile, showIn, shown, eitherOf, shownPair, readFrom, plain, describedAs, extractIn, extracted}
 use Rattle.volume.specs.Calls.{Planned, unmarred, through, createIn, appendIn, writeIn, describeIn, destroyIn, repairIn, planned, Answered, Call, create, write, describe, destroy, repair}
 use Rattle.volume.specs.Calls as calls
-use Rattle.volume.specs.Plans.{grows}
+use Rattle.volume.specs.Writes.{needs}
 use Rattle.volume.specs.declared.Found.{Found}
 use Rattle.volume.specs.declared.Found.the-variants.{At, Nothing}
 use Rattle.volume.specs.declared.Part.the-variants as part
@@ -108,7 +110,7 @@ module _ (π : Partition) (v : View) (few : π .e < 69552) where
   show-fits f r = file-fits f _ (λ c w. pick-fits (ltb r reach) _ _ (λ _. go c w (ltb r (len π v f)) refl) (omega arith))
     where
       go : candidate π v f ≡ true → wellFormed π v f ≡ true → (t : Bool) → ltb r (len π v f) ≡ t → OutcomeFits (pick t (Done (528 * name π v f r + 16) 512 0) Absent)
-      go c w true q = (omega (arith, few, inside-of π (name π v f r) (subst (λ (x : ℕ). inside π x ≡ true) (nth-data π v f r) (member π v f c w (ptrs π v f + suc r) (data-in π v f r (ltb-true r (len π v f) q)) .ins)) .1), omega arith, omega arith)
+      go c w true q = (omega (arith, few, inside-of π (name π v f r) (member π v f c w (292 + r) (wf-of π v f w .full (292 + r) (omega (arith, first-data (292 + r) (omega arith), ltb-true r (len π v f) q))) .ins) .1), omega arith, omega arith)
       go c w false q = tt
 
   extract-fits : (f n : ℕ) → OutcomeFits (extractIn π v f n)
@@ -212,16 +214,16 @@ module _ (d : ℕ) (l : List ℕ) (s e : ℕ) where
       pickp-fits (leb (length (free π (view l))) 1) _ _ (λ _. omega arith)
       (λ _. (omega (arith, inside-of π (freeHead π (view l)) (free-in π (view l) ok _ (head-free π (view l) ok)) .1), omega arith, omega arith))
 
-  append-fits : (f : ℕ) (dat : ℕ → ℕ) → OutcomeFits (appendIn π (view l) f dat .outcome)
+  append-fits : (f r : ℕ) (dat : ℕ → ℕ) → OutcomeFits (appendIn π (view l) f r dat .outcome)
   unfolding appendIn
-  append-fits f dat = pickp-fits (leb (length (free π (view l))) (pick (grows π (view l) f) 2 1)) _ _ (λ _. omega arith) (λ _. done-fits)
+  append-fits f r dat = pickp-fits (leb (length (free π (view l))) (needs π (view l) f r)) _ _ (λ _. omega arith) (λ _. done-fits)
 
   write-fits : (f r : ℕ) (dat : ℕ → ℕ) → OutcomeFits (writeIn π (view l) f r dat .outcome)
   unfolding writeIn
   write-fits f r dat =
       pickp-fits (candidate π (view l) f) _ _
       (λ _. pickp-fits (ltb r reach) _ _
-      (λ _. pickp-fits (ltb r (len π (view l) f)) _ _ (λ _. done-fits) (λ _. pickp-fits (eqb r (len π (view l) f)) _ _ (λ _. append-fits f dat) (λ _. omega arith)))
+      (λ _. pickp-fits (ltb r (len π (view l) f)) _ _ (λ _. done-fits) (λ _. pickp-fits (eqb r (len π (view l) f)) _ _ (λ _. append-fits f r dat) (λ _. omega arith)))
       (λ _. omega arith))
       (λ _. omega arith)
 

@@ -3,7 +3,6 @@ ghost use mathlib.Core.Path.{_≡_};
 ghost use lib.ListN.{length};
 ghost use Rattle.volume.specs.Answers.{readFrom, plain, readInto, describedAs, describedInto};
 use base::Refusal;
-use inspect::form;
 use volume::Outcome;
 use volume::Part;
 
@@ -66,7 +65,7 @@ fn described_as(img: &[u8], drive: usize, s: usize, f: usize, n: usize) -> Outco
             if !inspect::candidate(img, drive, s, e, f) {
                 return Outcome::Refused(Refusal::NoCandidate);
             }
-            if form::well_formed(img, drive, s, e, f) {
+            if inspect::well_formed(img, drive, s, e, f) {
                 Outcome::Done(0, 0, 0)
             } else {
                 Outcome::Refused(Refusal::Malformed(f))

@@ -31,26 +31,12 @@ unfoldable pub created : ℕ → View → ℕ → ℕ → ℕ → ℕ → Plan
 created d v s h g kind =
     record { before = []; deciding = st h (freshFib d v h kind); rest = st g (newFirst d v g) ∷ (st s (pibLess d v s g 1) ∷ []) }
 
--- the blocks and counts of an append: as in `appended`
-pub record Appends (l : List ℕ) (s f a q g p k p′ old top : ℕ) : Type 0 where
-  pub s-in : Block l s
-  pub f-in : Block l f
-  pub a-in : Block l a
-  pub q-in : Block l q
-  pub g-in : Block l g
-  pub old-in : Block l old
-  pub top-in : Block l top
-  pub p-few : p ≤ 32
-  pub k-few : k < 4160
-  pub p′-few : p′ ≤ 32
-
 -- the blocks and counts of a destroy: as in `destroyed`
-pub record Destroys (l : List ℕ) (s f p k top last tail : ℕ) : Type 0 where
+pub record Destroys (l : List ℕ) (s f n top last tail : ℕ) : Type 0 where
   pub s-in : Block l s
   pub f-in : Block l f
   pub top-in : Block l top
   pub last-in : Block l last
   pub tail-in : Block l tail
-  pub p-few : p ≤ 32
-  pub k-few : k ≤ 4160
+  pub n-few : n < 65536
   pub free-few : pair (view l) s numberFreeAt < 69552

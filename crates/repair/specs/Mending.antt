@@ -1,5 +1,5 @@
 -- The loop of repair: it stores as it goes and reads the partly repaired image, and its stores are those of the image as it was.
-use mathlib.Core.Path.{_≡_, refl, sym, ap, ap₂, _∙_, subst, fun-ext}
+use mathlib.Core.Path.{_≡_, refl, sym, ap, _∙_, subst, fun-ext}
 use mathlib.Core.Logic.{_⊎_, inl, inr, _≢_}
 use mathlib.Core.List.{List, [], _∷_, _++_}
 use mathlib.Core.Bool.{Bool, true, false, not, true≢false}
@@ -11,24 +11,25 @@ use lib.Seq.{take-nil}
 use borrow.Author.Tests.{eqb-true}
 use Rattle.base.specs.Tests.{pick, tabFrom, headOf, lastOf}
 use Rattle.drive.specs.Address.{lda}
-use Rattle.image.specs.View.{View, Rec, Store, upd, put2}
+use Rattle.image.specs.View.{View, Rec, Store, upd, pair, put2}
 use Rattle.image.specs.Image.{view, Bytes}
 use Rattle.image.specs.Stores.{stored, over, bytesOf, Fits, In, view-over, over-length, bytes-length, rec-bytes}
 use Rattle.image.specs.Saves.{Applied}
 use Rattle.image.proofs.Laws.{then}
 use Rattle.volume.specs.Words.{freeHeadAt, freeTailAt, numberFreeAt}
-use Rattle.volume.specs.Files.{Partition, owned, unowned}
+use Rattle.volume.specs.Files.{Partition, address, owned, unowned}
 use Rattle.volume.specs.Answers.{Unmarred}
-use Rattle.volume.specs.Agree.{Clean, Alike, alike, agree-clean, agree-owned, agree-unowned}
+use Rattle.volume.specs.Frame.{Clean, Formed, formed, agree-clean, agree-owned, agree-unowned}
 use Rattle.volume.specs.Plans.{st, stores, repaired, repairedPib, repairPlan, repairStores}
 use Rattle.frame.specs.Clean.{of-clean}
 use Rattle.frame.specs.Repair.{mid-agree}
 use Rattle.frame.specs.Restart.{Part, start, hits, hits-tab-in, repaired-same, target-same, target-pib}
 use Rattle.repair.specs.declared.Progress.{Progress}
-use Rattle.links.proofs.Laws.{formed}
+use Rattle.links.proofs.Laws as files
 use Rattle.blocks.specs.Ready.{Ready}
 use Rattle.blocks.specs.Standing.{Standing, stand-starts, stand-last, stand-many}
 use Rattle.blocks.specs.Fits.{fits-of}
+use Rattle.volume.specs.Reads.{address-lda}
 
 -- block b is unowned
 abbrev pub isFree : Partition → View → ℕ → Bool
@@ -87,8 +88,8 @@ module _ (π : Partition) (v : View) (c : Clean π v) where
 
   -- a partly repaired view has the same unowned blocks
   module _ (v′ : View) (p : Part π v c v′) where
-    agrees : Alike π v v′
-    agrees = alike π (mid-agree π v c v′ (p .blocks))
+    agrees : Formed π v v′
+    agrees = formed π (mid-agree π v c v′ (p .blocks))
 
     same-free : isFree π v ≡ isFree π v′
     same-free = fun-ext (λ b. ap not (agree-owned π v v′ c agrees b))
@@ -108,7 +109,7 @@ pub record Mending (π : Partition) (l : List ℕ) (limit : ℕ) (l′ : List �
   pub low : π .s < b
   pub same : length l′ ≡ length l
   pub done : Applied limit (tabFrom (suc (π .s)) (b - suc (π .s)) (storeAt π (view l))) l l′ (t .left)
-  pub part : Part π (view l) (formed π (view l) (ready .none)) (view l′)
+  pub part : Part π (view l) (files.formed π (view l) (ready .none)) (view l′)
   pub stand : Standing (isFree π (view l)) (π .s) (π .e) b (t .last) (t .next) (t .count)
 
 pub mend-starts : (π : Partition) (l : List ℕ) (limit first b : ℕ) → Ready π l → first ≡ headOf 0 (unowned π (view l)) → b ≡ suc (π .s)
@@ -121,7 +122,7 @@ mend-starts π l limit first b r q j =
       low = omega arith;
       same = refl;
       done = rw z (record { image = rw take-nil; rest = omega arith });
-      part = start π (view l) (formed π (view l) (r .none));
+      part = start π (view l) (files.formed π (view l) (r .none));
       stand = stand-starts (isFree π (view l)) (π .s) (π .e) first (r .lies .order) q;
     })
 
@@ -132,7 +133,7 @@ module _ {π : Partition} {l : List ℕ} {limit : ℕ} {l′ : List ℕ} {b : �
       let g = m .ready .lies in
       record {
         lies = record { known = g .known; start = g .start; order = g .order; within = subst (λ (n : ℕ). 528 * π .e + 528 ≤ n) (sym (m .same)) (g .within); few = g .few; small = g .small };
-        none = still-clean π (view l) (formed π (view l) (m .ready .none)) (view l′) (m .part);
+        none = still-clean π (view l) (files.formed π (view l) (m .ready .none)) (view l′) (m .part);
       }
 
   pub mend-turn : (first : ℕ) → first ≡ headOf 0 (unowned π (view l)) → b ≤ π .e → Turn π l′ first b t
@@ -147,12 +148,12 @@ module _ {π : Partition} {l : List ℕ} {limit : ℕ} {l′ : List ℕ} {b : �
   pub mend-next : {l″ : List ℕ} {t′ : Progress} → Bytes l → b ≤ π .e → Turned π l′ l″ b t t′ → Mending π l limit l″ (b + 1) t′
   mend-next {l″} {t′} by hi p =
       let lo = m .low in
-      let c : Clean π (view l) = formed π (view l) (m .ready .none) in
+      let c : Clean π (view l) = files.formed π (view l) (m .ready .none) in
       let f : ℕ → Store = storeAt π (view l) in
       let R : Rec = repaired π (view l) (unowned π (view l)) b in
       let q : repaired π (view l′) (unowned π (view l′)) b ≡ R = sym (repaired-same π (view l) c (view l′) (m .part .blocks) b (λ z. omega arith)) in
       let one : Applied (t .left) (st b R ∷ []) l′ l″ (t′ .left) = subst (λ (x : Rec). Applied (t .left) (st b x ∷ []) l′ l″ (t′ .left)) q (p .store) in
-      let a = applied-view (t .left) b R l′ l″ (t′ .left) one (omega (arith, m .same, m .ready .lies .within)) (fits-of π l c (m .ready .lies .few) by b lo hi) in
+      let a = applied-view (t .left) b R l′ l″ (t′ .left) one (omega (arith, m .same, m .ready .lies .within)) (fits-of π l (m .ready .lies .few) by b lo hi) in
       let n : b + 1 - suc (π .s) ≡ suc (b - suc (π .s)) = omega arith in
       let at : suc (π .s) + (b - suc (π .s)) ≡ b = omega arith in
       let list : tabFrom (suc (π .s)) (b + 1 - suc (π .s)) f ≡ tabFrom (suc (π .s)) (b - suc (π .s)) f ++ (st b R ∷ []) =
@@ -170,22 +171,27 @@ module _ {π : Partition} {l : List ℕ} {limit : ℕ} {l′ : List ℕ} {b : �
   pub mend-past : b ≡ suc (π .e) → Mending π l limit l′ (suc (π .e)) t
   mend-past q = subst (λ (x : ℕ). Mending π l limit l′ x t) q m
 
+-- the PIB's record for the free blocks fr
+pib-is : (π : Partition) (v : View) (fr : List ℕ) {first last n : ℕ} → first ≡ headOf 0 fr → last ≡ lastOf 0 fr → n ≡ length fr
+    → put2 freeHeadAt (lda (π .drive) first) (put2 freeTailAt (lda (π .drive) last) (put2 numberFreeAt n (v (π .s)))) ≡ repairedPib π v fr
+unfolding repairedPib
+pib-is π v fr {first} {last} {n} h t k =
+    let x : lda (π .drive) first ≡ address (π .drive) (pair v (π .s) freeHeadAt) (headOf 0 fr) = ap (lda (π .drive)) h ∙ sym (address-lda _ _ _) in
+    let y : lda (π .drive) last ≡ address (π .drive) (pair v (π .s) freeTailAt) (lastOf 0 fr) = ap (lda (π .drive)) t ∙ sym (address-lda _ _ _) in
+    rw (x, y, k)
+
 -- past the last block
 module _ {π : Partition} {l : List ℕ} {limit : ℕ} {l′ : List ℕ} {t : Progress} (m : Mending π l limit l′ (suc (π .e)) t) where
   -- the PIB's record, made of the image as it is
   pub mend-pib : (first : ℕ) {R : Rec} → first ≡ headOf 0 (unowned π (view l))
       → R ≡ put2 freeHeadAt (lda (π .drive) first) (put2 freeTailAt (lda (π .drive) (t .last)) (put2 numberFreeAt (t .count) (view l′ (π .s))))
       → R ≡ repairedPib π (view l) (unowned π (view l))
-  unfolding repairedPib unowned
+  unfolding unowned
   mend-pib first {R} h q =
-      let c : Clean π (view l) = formed π (view l) (m .ready .none) in
+      let c : Clean π (view l) = files.formed π (view l) (m .ready .none) in
       let u = same-unowned π (view l) c (view l′) (m .part) in
-      let w : R ≡ repairedPib π (view l′) (unowned π (view l′)) =
-      q ∙ ap₂ (λ (x y : ℕ). put2 freeHeadAt (lda (π .drive) x) (put2 freeTailAt (lda (π .drive) y) (put2 numberFreeAt (t .count) (view l′ (π .s)))))
-      (h ∙ ap (headOf 0) u) (stand-last (m .stand) ∙ ap (lastOf 0) u)
-      ∙ ap (λ (n : ℕ). put2 freeHeadAt (lda (π .drive) (headOf 0 (unowned π (view l′)))) (put2 freeTailAt (lda (π .drive) (lastOf 0 (unowned π (view l′)))) (put2 numberFreeAt n (view l′ (π .s)))))
-      (stand-many (m .stand) ∙ ap length u) in
-      w ∙ sym (target-pib π (view l′)) ∙ sym (target-same π (view l) c (view l′) (m .part) (π .s)) ∙ target-pib π (view l)
+      q ∙ pib-is π (view l′) _ (h ∙ ap (headOf 0) u) (stand-last (m .stand) ∙ ap (lastOf 0) u) (stand-many (m .stand) ∙ ap length u)
+      ∙ sym (target-pib π (view l′)) ∙ sym (target-same π (view l) c (view l′) (m .part) (π .s)) ∙ target-pib π (view l)
 
   -- and its store ends the list
   pub mend-end : {l″ : List ℕ} {left : ℕ} {R : Rec} → R ≡ repairedPib π (view l) (unowned π (view l)) → Applied (t .left) (st (π .s) R ∷ []) l′ l″ left

@@ -8,8 +8,6 @@ ghost use Rattle.volume.specs.Files.{partitionOf};
 ghost use Rattle.volume.specs.Answers.{showIn, shown, partOf, shownPair, partOfPair};
 ghost use Rattle.volume.specs.Reads.{Lies};
 use base::Refusal;
-use inspect::form;
-use inspect::index;
 use volume::Outcome;
 use volume::PairAnswer;
 use volume::Part;
@@ -22,15 +20,15 @@ pub fn show_in(img: &[u8], drive: usize, s: usize, e: usize, f: usize, r: usize)
     if !inspect::candidate(img, drive, s, e, f) {
         return Outcome::Refused(Refusal::NoCandidate);
     }
-    if !form::well_formed(img, drive, s, e, f) {
+    if !inspect::well_formed(img, drive, s, e, f) {
         return Outcome::Refused(Refusal::Malformed(f));
     }
     if 4160 <= r {
         return Outcome::Refused(Refusal::BadBlock);
     }
-    let k = index::len(img, drive, s, e, f);
+    let k = inspect::len(img, drive, s, e, f);
     if r < k {
-        let b = index::name(img, drive, s, e, f, index::ptrs_for(k), k, r);
+        let b = inspect::name(img, drive, s, e, f, r);
         Outcome::Done(528 * b + 16, 512, 0)
     } else {
         Outcome::Absent

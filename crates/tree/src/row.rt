@@ -3,11 +3,11 @@ ghost use mathlib.Core.Path.{_≡_};
 ghost use Prim.Native.Nat.{_+_, _*_, _/_, _%_, _≤_, _<_};
 ghost use lib.ListN.{length};
 ghost use Rattle.base.specs.Tests.{pick};
-ghost use Rattle.volume.specs.Files.{partitionOf};
+ghost use Rattle.image.specs.Image.{view};
+ghost use Rattle.volume.specs.Files.{partitionOf, len};
 ghost use Rattle.inspect.specs.Parts.{Opened};
 ghost use Rattle.directory.specs.Directory.{nameLength, nameAt, placeOf, rowOf, lay};
 use directory::entry;
-use inspect::index;
 
 // The bytes of src over those of the buffer from `at` on.
 fn put_at(buf: &mut [u8], at: usize, src: &[u8])
@@ -41,7 +41,7 @@ fn put_row(rows: &mut [u8], n: usize, t: usize, level: usize, what: usize, name:
     put_at(rows, a + 7 + k, &z[0..m]);
 }
 
-// The row of entry j of f, which has p pointer blocks and k blocks, as row n; nothing unless `on`.
+// The row of entry j of f as row n; nothing unless `on`.
 pub fn entry_row(
     rows: &mut [u8],
     img: &[u8],
@@ -49,8 +49,6 @@ pub fn entry_row(
     s: usize,
     e: usize,
     f: usize,
-    p: usize,
-    k: usize,
     j: usize,
     level: usize,
     what: usize,
@@ -58,13 +56,13 @@ pub fn entry_row(
     n: usize,
     on: bool,
 )
-    requires { ⌜ (Opened (partitionOf drive s e) (now img) f p k) × (j < 16 * k) × (nameLength (now img) (placeOf (partitionOf drive s e) (now img) f j) ≤ 25) × (level < 256) × (what < 256) × (32 * n + 32 ≤ length (now rows)) ⌝ }
+    requires { ⌜ (Opened (partitionOf drive s e) (now img) f) × (j < 16 * len (partitionOf drive s e) (view (now img)) f) × (nameLength (now img) (placeOf (partitionOf drive s e) (now img) f j) ≤ 25) × (level < 256) × (what < 256) × (32 * n + 32 ≤ length (now rows)) ⌝ }
     ensures { λ _. ⌜ now (rows .exit) ≡ pick on (lay (now (rows .entry)) (32 * n) (rowOf t level what (nameAt (now (img .entry)) (placeOf (partitionOf drive s e) (now (img .entry)) f j)))) (now (rows .entry)) ⌝ }
 {
     if !on {
         return;
     }
-    let b = index::name(img, drive, s, e, f, p, k, j / 16);
+    let b = inspect::name(img, drive, s, e, f, j / 16);
     let at = 528 * b + 16 + entry::ENTRY * (j % 16);
     let from = at + entry::NAME;
     let end = from + image::wide(img[at + entry::LENGTH]);

@@ -12,7 +12,6 @@ use crate::row;
 use directory::Met;
 use directory::Walk;
 use directory::entry;
-use inspect::index;
 
 // Directory f and what lies below it with `left` levels left, n of `most` rows filled so far; the rows are written if `on`.
 pub fn walk(
@@ -36,19 +35,17 @@ pub fn walk(
     }
     let below = left - 1;
     let level = 10 - left;
-    let k = index::len(img, drive, s, e, f);
-    let p = index::ptrs_for(k);
-    let end = 16 * k;
+    let end = 16 * inspect::len(img, drive, s, e, f);
     let mut at = n;
     for j in 0..end {
-        let x = entry::met(img, drive, s, e, rule, f, p, k, j);
+        let x = entry::met(img, drive, s, e, rule, f, j);
         match x {
             Met::Skip => continue,
             Met::Taken(what, t) => {
                 if most <= at {
                     return Walk::Stopped(at);
                 }
-                row::entry_row(rows, img, drive, s, e, f, p, k, j, level, what, t, at, on);
+                row::entry_row(rows, img, drive, s, e, f, j, level, what, t, at, on);
                 at += 1;
                 if what != 1 {
                     continue;

@@ -40,7 +40,7 @@ module _ (π : Partition) (v : View) where
       go true i = rw i (walk-says π v (π.e - π.s - 1) 0 (freeHead π v) 0 i)
       go false i = rw i (wrong (λ g. true≢false (sym (chain-head (π.e - π.s - 1) (freeHead π v) g) ∙ i)))
 
-  pub tests-no : (Fine π v 0 (free π v) → ⊥) → freeSound π v ≡ false
+  tests-no : (Fine π v 0 (free π v) → ⊥) → freeSound π v ≡ false
   unfolding freeSound
   tests-no h = go (all (π.e - π.s) (onceTest π v c)) refl (within π c) refl (chained π v 0 c) refl
     where
@@ -53,9 +53,9 @@ module _ (π : Partition) (v : View) where
       go true p true q false r = every-no _ 2 r
       go true p true q true r = absurd (h (record { ins = q; links = r; unowned = there-none π v c q p }))
 
-  pub tests-few : (length (free π v) ≡ count (π.e - π.s) (freeAt π v) → ⊥) → freeSound π v ≡ false
+  tests-few : π.s < π.e → (length (free π v) ≡ count (π.e - π.s) (freeAt π v) → ⊥) → freeSound π v ≡ false
   unfolding freeSound
-  tests-few h = go (all (π.e - π.s) (onceTest π v c)) refl (within π c) refl
+  tests-few low h = go (all (π.e - π.s) (onceTest π v c)) refl (within π c) refl
     where
       c : List ℕ
       c = free π v
@@ -63,7 +63,7 @@ module _ (π : Partition) (v : View) where
       go : (x : Bool) → all (π.e - π.s) (onceTest π v c) ≡ x → (y : Bool) → within π c ≡ y → freeSound π v ≡ false
       go false p y q = every-no _ 0 p
       go true p false q = every-no _ 1 q
-      go true p true q = absurd (h (there-many π v c q p))
+      go true p true q = absurd (h (there-many π v low c q p))
 
   by-wrong : {l : List ℕ} {w : Walk} {x : ℕ} → Verdict π v 0 0 l w → w ≡ Wrong x → Fine π v 0 l → ⊥
   by-wrong (fine g m z) q f = let z : _≡_ {A = ℕ} 0 1 = cc in omega arith
@@ -107,12 +107,12 @@ module _ (π : Partition) (v : View) where
 
   module _ (h : π.s < π.e) (n last : ℕ) (g : Counts (free π v) n last) where
     pub free-few : (n ≡ count (π.e - π.s) (freeAt π v) → ⊥) → false ≡ freeSound π v
-    free-few m = sym (tests-few (λ z. m (g .many ∙ z)))
+    free-few m = sym (tests-few h (λ z. m (g .many ∙ z)))
 
     pub chain-rest : n ≡ count (π.e - π.s) (freeAt π v) → named π v n last ≡ freeSound π v
     unfolding freeSound named every
     chain-rest m =
-        rw (all-there π v (free π v) (g .good) (sym (g .many) ∙ m), g .good .ins, g .good .links, head-is h, ← g .final, lt-ltb 0 (length (free π v)) (some-is h), ← g .many)
+        rw (all-there π v h (free π v) (g .good) (sym (g .many) ∙ m), g .good .ins, g .good .links, head-is h, ← g .final, lt-ltb 0 (length (free π v)) (some-is h), ← g .many)
 
     pub last-is-in : last ≤ π.e
     last-is-in = rw (g .final) (last-in π 0 (free π v) (omega arith) (g .good .ins))

@@ -15,17 +15,12 @@ use Rattle.base.specs.Laws.{both-of, both-left, both-right}
 use Rattle.volume.specs.Words.{nextAt, previousAt}
 use Rattle.volume.specs.Files.{Partition, inside, orNil, owned, within, chain, chained}
 use Rattle.volume.specs.Reads.{inside-of}
+use Rattle.volume.specs.Steps.{more, none}
 use Rattle.verify.specs.Walks.{onward, stepAt, walk}
 use Rattle.verify.specs.declared.Step.{Step}
 use Rattle.verify.specs.declared.Step.the-variants.{Bad, End, On}
 use Rattle.verify.specs.declared.Walk.{Walk}
 use Rattle.verify.specs.declared.Walk.the-variants.{Wrong, Free}
-
-more : {b e : ℕ} → b < e → e - b ≡ suc (e - (b + 1))
-more l = omega arith
-
-none : {b e : ℕ} → e ≤ b → e - b ≡ zero
-none l = omega arith
 
 -- the loop: n passed of at most m; w is the answer of the whole
 pub record Walking (π : Partition) (v : View) (m before b n : ℕ) (w : Walk) : Type 0 where

@@ -1,4 +1,3 @@
-pub mod Laws
 pub mod Free
 pub mod Pigeon
 pub mod Chains

@@ -8,25 +8,16 @@ use lib.Dec.{eqb}
 use lib.ListN.{length}
 use borrow.Author.Tests.{eq-eqb, ne-eqb, eqb-true}
 use Rattle.base.specs.Tests.{pick, all, count, occ, headOf}
-use Rattle.base.specs.Sums.{sum, sum-same, sum-add, sum-nil, sum-equal, sum-here, count-sum}
+use Rattle.base.specs.Sums.{sum, sum-same, sum-equal, count-sum}
 use Rattle.drive.specs.Address.{pda, pdaBlock}
 use Rattle.drive.specs.Laws.{pda-back, pda-pos}
 use Rattle.image.specs.View.{View}
 use Rattle.base.specs.Laws.{both-of, both-left, both-right, all-at, all-of}
 use Rattle.volume.specs.Files.{Partition, onceTest, inside, orNil, owned, within}
 use Rattle.volume.specs.Reads.{inside-of}
+use Rattle.frame.specs.FreeChain.{length-sum}
 use Rattle.verify.specs.Walks.{freeAt}
 use Rattle.verify.proofs.Free.{Fine, noneOwned, fine-next, fine-here, fine-rest}
-
--- the blocks of a list within the partition, counted block by block
-pub sum-occ : (π : Partition) (l : List ℕ) → within π l ≡ true → sum (π.e - π.s) (λ i. occ (suc (π.s + i)) l) ≡ length l
-unfolding within occ
-sum-occ π [] h = sum-nil (π.e - π.s)
-sum-occ π (x ∷ l) h =
-    let i = inside-of π x (both-left _ _ h) in
-    let q = sum-occ π l (both-right _ _ h) in
-    sum-add (π.e - π.s) (λ i. pick (eqb (suc (π.s + i)) x) 1 0) (λ i. occ (suc (π.s + i)) l)
-    ∙ rw (sum-here π.s (π.e - π.s) x (i .0) (omega (arith, i .0, i .1)), q) (omega arith)
 
 module _ (π : Partition) (v : View) where
   some : (b : ℕ) → inside π b ≡ true → orNil π b ≡ pda π.drive b
@@ -81,8 +72,8 @@ module _ (π : Partition) (v : View) where
   free-sum = count-sum (π.e - π.s) (freeAt π v) ∙ sum-same (π.e - π.s) _ _ (λ i l. turned (owned π v (suc (π.s + i))))
 
   -- as many as are unowned: each of them once, and no owned one
-  pub all-there : (l : List ℕ) → Fine π v 0 l → length l ≡ count (π.e - π.s) (freeAt π v) → all (π.e - π.s) (onceTest π v l) ≡ true
-  all-there l f h = all-of (π.e - π.s) (onceTest π v l) (λ i m. eq-eqb _ _ (sum-equal (π.e - π.s) (λ i. occ (suc (π.s + i)) l) (λ i. pick (owned π v (suc (π.s + i))) 0 1) few (sum-occ π l (f .ins) ∙ h ∙ free-sum) i m))
+  pub all-there : π.s < π.e → (l : List ℕ) → Fine π v 0 l → length l ≡ count (π.e - π.s) (freeAt π v) → all (π.e - π.s) (onceTest π v l) ≡ true
+  all-there g l f h = all-of (π.e - π.s) (onceTest π v l) (λ i m. eq-eqb _ _ (sum-equal (π.e - π.s) (λ i. occ (suc (π.s + i)) l) (λ i. pick (owned π v (suc (π.s + i))) 0 1) few (sym (length-sum π l g (f .ins)) ∙ h ∙ free-sum) i m))
     where
       few : (i : ℕ) → i < π.e - π.s → occ (suc (π.s + i)) l ≤ pick (owned π v (suc (π.s + i))) 0 1
       few i m = go (owned π v (suc (π.s + i))) refl
@@ -92,8 +83,8 @@ module _ (π : Partition) (v : View) where
           go false o = rw o (once l 0 (suc (π.s + i)) f)
 
   -- and back
-  pub there-many : (l : List ℕ) → within π l ≡ true → all (π.e - π.s) (onceTest π v l) ≡ true → length l ≡ count (π.e - π.s) (freeAt π v)
-  there-many l w h = sym (sum-occ π l w) ∙ sum-same (π.e - π.s) _ _ (λ i m. eqb-true _ _ (all-at (π.e - π.s) (onceTest π v l) h i m)) ∙ sym free-sum
+  pub there-many : π.s < π.e → (l : List ℕ) → within π l ≡ true → all (π.e - π.s) (onceTest π v l) ≡ true → length l ≡ count (π.e - π.s) (freeAt π v)
+  there-many g l w h = length-sum π l g w ∙ sum-same (π.e - π.s) _ _ (λ i m. eqb-true _ _ (all-at (π.e - π.s) (onceTest π v l) h i m)) ∙ sym free-sum
 
   none-of : (l : List ℕ) → within π l ≡ true → ((b : ℕ) → inside π b ≡ true → owned π v b ≡ true → occ b l ≡ 0) → noneOwned π v l ≡ true
   unfolding occ noneOwned within

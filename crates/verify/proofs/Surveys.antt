@@ -1,20 +1,19 @@
 -- One pass over the blocks: what a block's standing says, the pass so far, and what its end gives. Assumes nothing.
 use mathlib.Core.Path.{_≡_, refl, sym, ap, _∙_}
-use mathlib.Core.Bool.{Bool, true, false, not, true≢false, false≢true, _||_}
-use Prim.Native.Nat.{ℕ, suc, _+_, _-_, _*_, _≤_, _<_}
+use mathlib.Core.Bool.{Bool, true, false, true≢false}
+use Prim.Native.Nat.{ℕ, _+_, _-_, _*_, _≤_, _<_}
 use native.Mathlib.Omega.{arith}
 use native.Mathlib.Numerals.{add-one}
 use Rattle.base.specs.Tests.{pick, both, all, count}
 use Rattle.base.specs.Laws.{both-left, both-right, both-of, all-at}
 use Rattle.base.specs.Sums.{sum, count-both}
 use Rattle.image.specs.View.{View}
-use Rattle.volume.specs.Files.{Partition, blockAt, candidate, wellFormed, linked, isFile, size, fileTest, owned, freeSound, sound}
+use Rattle.volume.specs.Files.{Partition, blockAt, candidate, wellFormed, linked, isFile, len, size, fileTest, owned, freeSound, sound}
 use Rattle.volume.specs.Answers.{lowestMalformed, Unmarred, checkIn, tallied}
-use Rattle.volume.specs.Owned.{wf-of, few-ptrs}
-use Rattle.volume.specs.Agree.{Clean}
-use Rattle.volume.specs.Reads.{candidate-in}
+use Rattle.volume.specs.Index.{wf-of}
+use Rattle.volume.specs.Closed.{sizeOf, size-closed}
 use Rattle.frame.specs.Clean.{of-clean}
-use Rattle.frame.specs.Needed.{needed, owned-needed}
+use Rattle.frame.specs.Needed.{needs, needed, owned-needed}
 use Rattle.frame.specs.Sound.{tested}
 use Rattle.volume.specs.Steps.{both-no}
 use Rattle.volume.specs.declared.Found.{Found}
@@ -57,14 +56,17 @@ module _ (π : Partition) (v : View) where
     unfolding standing
     stands-faulty c w = sym (rw (c, w, standing))
 
-    pub stands-file : (n : ℕ) → candidate π v f ≡ true → wellFormed π v f ≡ true → linked π v f ≡ true → n ≡ size π v f → stands.File n ≡ standing π v f
+    pub stands-file : {n m : ℕ} → candidate π v f ≡ true → wellFormed π v f ≡ true → linked π v f ≡ true → n ≡ len π v f → m ≡ sizeOf n → stands.File m ≡ standing π v f
     unfolding standing
-    stands-file n c w l q = sym (rw (c, both-of w l, q, standing))
+    stands-file c w l hn hm = sym (rw (c, both-of w l, hm ∙ ap sizeOf hn ∙ sym (size-closed π v f w), standing))
+
+    -- the blocks that a file's size is asked of
+    pub size-asks : {n : ℕ} → wellFormed π v f ≡ true → n ≡ len π v f → n ≤ 4160
+    size-asks w h = omega (arith, h, wf-of π v f w .short)
 
   -- a file's size
-  pub size-few : (f : ℕ) → candidate π v f ≡ true → wellFormed π v f ≡ true → size π v f ≤ 4193
-  unfolding size
-  size-few f c w = omega (arith, few-ptrs π v f c w, wf-of π v f w .short)
+  size-few : (f : ℕ) → wellFormed π v f ≡ true → size π v f ≤ 4450
+  size-few f w = omega (arith, size-closed π v f w, wf-of π v f w .short)
 
   -- the pass before block i of s+1..e
   pub record Passed (i files owned : ℕ) : Type 0 where
@@ -72,7 +74,7 @@ module _ (π : Partition) (v : View) where
     pub many : files ≡ count i (fileAt π v)
     pub few : files ≤ i
     pub blocks : owned ≡ sum i (sizeAt π v)
-    pub short : owned ≤ 4193 * i
+    pub short : owned ≤ 4450 * i
 
   pub pass-starts : Passed 0 0 0
   unfolding all count sum
@@ -91,7 +93,7 @@ module _ (π : Partition) (v : View) where
     at-i = hx ∙ ap (standing π v) hf
 
     pub pass-other : (files owned : ℕ) → x ≡ stands.Other → Passed i files owned → Passed (i + 1) files owned
-    unfolding all count sum isFile both
+    unfolding all count sum isFile both needs
     pass-other files owned q p =
         let c = told-other (candidate π v b) form (size π v b) (sym at-i ∙ q) in
         rw (add-one i) (record {
@@ -103,7 +105,7 @@ module _ (π : Partition) (v : View) where
         })
 
     pub pass-file : (files owned n : ℕ) → x ≡ stands.File n → Passed i files owned → Passed (i + 1) (files + 1) (owned + n)
-    unfolding all count sum isFile both
+    unfolding all count sum isFile both needs
     pass-file files owned n q p =
         let t = told-file (candidate π v b) form (size π v b) n (sym at-i ∙ q) in
         let c : candidate π v b ≡ true = t .0 in
@@ -114,13 +116,13 @@ module _ (π : Partition) (v : View) where
           many = rw (c, w) (omega (arith, p .many));
           few = omega (arith, p .few);
           blocks = rw (c, w) (omega (arith, p .blocks, t .2));
-          short = omega (arith, p .short, t .2, size-few b c w);
+          short = omega (arith, p .short, t .2, size-few b w);
         })
 
-    pub file-short : (n : ℕ) → x ≡ stands.File n → n ≤ 4193
+    pub file-short : (n : ℕ) → x ≡ stands.File n → n ≤ 4450
     file-short n q =
         let t = told-file (candidate π v b) form (size π v b) n (sym at-i ∙ q) in
-        omega (arith, t .2, size-few b (t .0) (both-left (wellFormed π v b) (linked π v b) (t .1)))
+        omega (arith, t .2, size-few b (both-left (wellFormed π v b) (linked π v b) (t .1)))
 
     test-faulty : x ≡ stands.Faulty → fileTest π v i ≡ false
     test-faulty q = let t = told-faulty (candidate π v b) form (size π v b) (sym at-i ∙ q) in rw (t .0, t .1)

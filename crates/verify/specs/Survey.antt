@@ -1,6 +1,6 @@
 -- One pass over the blocks: how each stands, and what the files come to.
-use mathlib.Core.Bool.{Bool, true, false}
-use Prim.Native.Nat.{ℕ, zero, suc, _+_, _-_}
+use mathlib.Core.Bool.{Bool}
+use Prim.Native.Nat.{ℕ, _-_}
 use Rattle.base.specs.Tests.{pick, both, all, count}
 use Rattle.base.specs.Sums.{sum}
 use Rattle.image.specs.View.{View}

@@ -33,8 +33,8 @@ module _ (π : Partition) (v : View) where
   -- FreeHead is an LDA, FreeTail that of the last block, and NumberFree is n
   unfoldable pub named : ℕ → ℕ → Bool
   named n last =
-      every (isLda π (pair v π.s freeHeadAt) (freeHead π v)
-      ∷ isLda π (pair v π.s freeTailAt) last
+      every (isLda π.drive (pair v π.s freeHeadAt) (freeHead π v)
+      ∷ isLda π.drive (pair v π.s freeTailAt) last
       ∷ eqb (pair v π.s numberFreeAt) n
       ∷ [])
 

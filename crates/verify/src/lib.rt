@@ -185,10 +185,8 @@ fn stands(img: &[u8], drive: usize, s: usize, e: usize, f: usize) -> Standing
     if !inspect::well_formed(img, drive, s, e, f) {
         return Standing::Faulty;
     }
-    let k = inspect::len(img, drive, s, e, f);
-    let p = inspect::ptrs_for(k);
-    if links::linked(img, drive, s, e, f, p, k) {
-        Standing::File(p + k + 1)
+    if links::linked(img, drive, s, e, f) {
+        Standing::File(inspect::size_of(inspect::len(img, drive, s, e, f)))
     } else {
         Standing::Faulty
     }

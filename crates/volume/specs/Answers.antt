@@ -1,18 +1,18 @@
 -- What the calls that change nothing answer, of the image's bytes l: document 01's refusals in its order, the values, and the buffers.
 use mathlib.Core.Path.{_≡_}
-use mathlib.Core.Bool.{Bool, true, false, not, _&&_, _||_}
+use mathlib.Core.Bool.{Bool, true, false, not}
 use mathlib.Core.List.{List, [], _∷_, _++_}
 use Prim.Native.Nat.{ℕ, zero, suc, _+_, _-_, _*_, _/_, _%_}
 use lib.Dec.{leb, ltb, eqb}
 use lib.ListN.{length, take, drop, replicate}
-use Rattle.base.specs.Tests.{pick, both, every, count}
-use Rattle.base.specs.declared.Refusal.{Refusal}
+use Rattle.base.specs.Tests.{pick, every, count}
 use Rattle.base.specs.declared.Refusal.the-variants.{BadImage, BadPartition, BadBuffer, Malformed, Unsound, NoCandidate, BadBlock}
-use Rattle.drive.specs.Address.{blocks, lda, ldaBlock}
+use Rattle.drive.specs.Address.{blocks, ldaBlock}
 use Rattle.image.specs.View.{View, pair}
 use Rattle.image.specs.Image.{view}
 use Rattle.volume.specs.Words.{partitionStartAt, partitionEndAt, dataOffset}
-use Rattle.volume.specs.Files.{Partition, partitionOf, blockAt, candidate, wellFormed, isFile, isMalformed, owned, sound, len, name, reach}
+use Rattle.volume.specs.Files.{Partition, partitionOf, blockAt, isLda, candidate, wellFormed, isFile, isMalformed, owned, sound, len, name}
+use Rattle.volume.specs.Keys.{reach}
 use Rattle.volume.specs.declared.Found.{Found}
 use Rattle.volume.specs.declared.Found.the-variants.{At, Nothing}
 use Rattle.volume.specs.declared.Part.{Part}
@@ -37,8 +37,8 @@ partGood d n v s =
     let e = endOf d v s in
     every (leb 1 s
     ∷ ltb s n
-    ∷ eqb (pair v s partitionStartAt) (lda d s)
-    ∷ eqb (pair v s partitionEndAt) (lda d e)
+    ∷ isLda d (pair v s partitionStartAt) s
+    ∷ isLda d (pair v s partitionEndAt) e
     ∷ ltb s e
     ∷ ltb e n
     ∷ leb (e - s + 1) 32767

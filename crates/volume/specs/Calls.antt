@@ -1,42 +1,49 @@
 -- What each changing call answers and stores, of the image's bytes l: document 01's refusals in its order, the values, the list of
 -- stores with the deciding one's place, and the file named or created.
 use mathlib.Core.Path.{_≡_}
-use mathlib.Core.Bool.{Bool, true, false, not, _&&_, _||_}
-use mathlib.Core.List.{List, [], _∷_, _++_}
-use Prim.Native.Nat.{ℕ, zero, suc, _+_, _-_, _*_}
+use mathlib.Core.Bool.{Bool, true}
+use mathlib.Core.List.{List, [], _∷_}
+use Prim.Native.Nat.{ℕ, _+_}
 use lib.Dec.{leb, ltb, eqb}
 use lib.ListN.{length, take}
-use Rattle.base.specs.Tests.{pick, both}
+use Rattle.base.specs.Tests.{pick}
 use Rattle.base.specs.declared.Refusal.{Refusal}
 use Rattle.base.specs.declared.Refusal.the-variants.{BadBuffer, Malformed, Unsound, NoCandidate, BadBlock, Full, NothingFree}
 use Rattle.image.specs.View.{View, Rec, Store}
 use Rattle.image.specs.Image.{view}
 use Rattle.image.specs.Stores.{stored}
 use Rattle.image.specs.Saves.{words}
-use Rattle.volume.specs.Files.{Partition, partitionOf, candidate, len, sound, free, freeHead, unowned, reach}
+use Rattle.volume.specs.Keys.{reach}
+use Rattle.volume.specs.Files.{Partition, partitionOf, candidate, len, sound, free, freeHead, unowned}
 use Rattle.volume.specs.Answers.{partition, lowestMalformed}
-use Rattle.volume.specs.Plans.{Plan, stores, createPlan, replacePlan, appendPlan, grows, describePlan, destroyPlan, repairPlan}
+use Rattle.volume.specs.Plans.{Plan, stores, createPlan, describePlan, destroyPlan, repairPlan}
+use Rattle.volume.specs.Writes.{needs, writePlan, replacePlan}
 use Rattle.volume.specs.declared.Found.{Found}
 use Rattle.volume.specs.declared.Found.the-variants.{At, Nothing}
 use Rattle.volume.specs.declared.Part.{Part}
 use Rattle.volume.specs.declared.Part.the-variants as part
 use Rattle.volume.specs.declared.Outcome.{Outcome}
-use Rattle.volume.specs.declared.Outcome.the-variants.{Done, Absent, Refused}
+use Rattle.volume.specs.declared.Outcome.the-variants.{Done, Refused}
 use Rattle.volume.specs.declared.Answer.{Answer}
 
--- what a call comes to, its stores in order, and the place of the deciding one among them
+-- what a call comes to, its stores in order, and the places of the deciding ones among them
 pub record Planned : Type 0 where
   pub outcome : Outcome
   pub list : List Store
-  pub deciding : ℕ
+  pub deciding : List ℕ
+
+-- how many of the deciding stores are among the first k
+unfoldable pub decided : List ℕ → ℕ → ℕ
+decided [] k = 0
+decided (i ∷ is) k = pick (ltb i k) 1 0 + decided is k
 
 -- nothing is stored under a refusal
 abbrev pub refuse : Refusal → Planned
-refuse y = record { outcome = Refused y; list = []; deciding = 0 }
+refuse y = record { outcome = Refused y; list = []; deciding = [] }
 
 -- a call that is done, with the value a
 abbrev pub finish : ℕ → Plan → Planned
-finish a p = record { outcome = Done a 0 0; list = stores p; deciding = length (p .before) }
+finish a p = record { outcome = Done a 0 0; list = stores p; deciding = length (p .before) ∷ [] }
 
 -- ---- refusals 1 to 5, on the unchanged image
 
@@ -66,15 +73,16 @@ module _ (π : Partition) (v : View) where
   unfoldable pub createIn : ℕ → Planned
   createIn kind = pick (leb room 1) (refuse Full) (finish (freeHead π v) (createPlan π v kind))
 
-  unfoldable pub appendIn : ℕ → Rec → Planned
-  appendIn f dat = pick (leb room (pick (grows π v f) 2 1)) (refuse Full) (finish 0 (appendPlan π v f dat))
+  -- block r, which is absent
+  unfoldable pub appendIn : ℕ → ℕ → Rec → Planned
+  appendIn f r dat = pick (leb room (needs π v f r)) (refuse Full) (finish 0 (writePlan π v f r dat))
 
   -- 7 is a block above 4,159 or above L + 1
   unfoldable pub writeIn : ℕ → ℕ → Rec → Planned
   writeIn f r dat =
       pick (candidate π v f)
       (pick (ltb r reach)
-      (pick (ltb r (len π v f)) (finish 0 (replacePlan π v f r dat)) (pick (eqb r (len π v f)) (appendIn f dat) (refuse BadBlock)))
+      (pick (ltb r (len π v f)) (finish 0 (replacePlan π v f r dat)) (pick (eqb r (len π v f)) (appendIn f r dat) (refuse BadBlock)))
       (refuse BadBlock))
       (refuse NoCandidate)
 

@@ -1,13 +1,16 @@
--- Candidates, files, owned blocks, the free chain, soundness: document 01's rules on a view of a partition.
-use mathlib.Core.Bool.{Bool, true, false, not, _&&_, _||_}
+-- Candidates, files, owned blocks, link order, the free chain, soundness: document 01's rules on a view of a partition. A relative number is a key
+-- here (Keys), and a file's index says which keys are present, and where.
+use mathlib.Core.Bool.{Bool, true, false, not, _||_}
 use mathlib.Core.List.{List, [], _∷_}
-use Prim.Native.Nat.{ℕ, zero, suc, _+_, _-_, _*_, _/_, _%_}
+use Prim.Native.Nat.{ℕ, zero, suc, _+_, _-_, _%_}
 use lib.Dec.{leb, ltb, eqb}
-use lib.ListN.{length, getD}
+use lib.ListN.{length}
 use Rattle.base.specs.Tests.{pick, both, every, all, count, those, occ, lastOf, headOf}
 use Rattle.drive.specs.Address.{pda, pdaBlock, lda, ldaBlock}
 use Rattle.image.specs.View.{View, pair}
-use Rattle.volume.specs.Words.{serialAt, relativeAt, nextAt, previousAt, slotAt, directAt, indirectAt, doubleAt, doubleAt′, inUseAt, lastBlockAt, lastAddressAt, lowNumberAt, lowAddressAt, freeHeadAt, freeTailAt, numberFreeAt, fibNumber, pointerNumber}
+use Rattle.volume.specs.Words.{serialAt, relativeAt, nextAt, previousAt, slotAt, inUseAt, lastBlockAt, lastAddressAt, lowNumberAt, lowAddressAt, freeHeadAt, freeTailAt, numberFreeAt, fibNumber}
+use Rattle.volume.specs.Search.{seek, down}
+use Rattle.volume.specs.Keys.{home, keyOf, number, reach, up, slot, child, first, low, span}
 
 -- a partition: its drive, its first block, which is the PIB, and its last
 pub record Partition : Type 0 where
@@ -26,36 +29,21 @@ unfoldable pub within : Partition → List ℕ → Bool
 within π [] = true
 within π (b ∷ bs) = both (inside π b) (within π bs)
 
--- a block of s+1..e by its place from 0 on; a test at each of them
+-- a block of s+1..e by its place from 0 on
 abbrev pub blockAt : Partition → ℕ → ℕ
 blockAt π i = suc (π .s + i)
 
--- x is the LDA of block b
-abbrev pub isLda : Partition → ℕ → ℕ → Bool
-isLda π x b = eqb x (lda (π .drive) b)
+-- x is the LDA of block b, on drive d
+unfoldable pub isLda : ℕ → ℕ → ℕ → Bool
+isLda d x b = eqb x (lda d b)
+
+-- the address of b as it is written over `old`: kept where it names b already
+unfoldable pub address : ℕ → ℕ → ℕ → ℕ
+address d old b = pick (isLda d old b) old (lda d b)
 
 -- the PDA of a block, or nil for 0
 abbrev pub orNil : Partition → ℕ → ℕ
 orNil π b = pick (eqb b 0) 0 (pda (π .drive) b)
-
--- how far the index reaches: L + 1 is at most 4,160
-abbrev pub reach : ℕ
-reach = 4160
-
--- relative block r ≥ 64 is an entry of pointer block (r - 64) / 128, counted from 0, whose relative number is -4 less that
-abbrev pub ptrIndex : ℕ → ℕ
-ptrIndex r = (r - 64) / 128
-
-abbrev pub ptrSlot : ℕ → ℕ
-ptrSlot r = (r - 64) % 128
-
--- P for k = L + 1 blocks
-unfoldable pub ptrsFor : ℕ → ℕ
-ptrsFor k = (k - 64 + 127) / 128
-
--- the place in the link order of a relative number, in a file with p pointer blocks: -(3+p) is place 0
-unfoldable pub placeOf : ℕ → ℕ → ℕ
-placeOf p rel = pick (eqb rel fibNumber) p (pick (ltb rel 32768) (p + suc rel) (p - suc (65532 - rel)))
 
 module _ (π : Partition) (v : View) where
   -- the serial in a block's header
@@ -66,82 +54,93 @@ module _ (π : Partition) (v : View) where
   unfoldable pub candidate : ℕ → Bool
   candidate f = every (inside π f ∷ eqb (serial f) (pda (π .drive) f) ∷ eqb (v f relativeAt) fibNumber ∷ [])
 
-  -- L + 1, from 0 to 65535; P
+  -- L + 1, from 0 to 65535, and the key of block L, or of the FIB if L is -1
   unfoldable pub len : ℕ → ℕ
   len f = (v f lastBlockAt + 1) % 65536
 
-  unfoldable pub ptrs : ℕ → ℕ
-  ptrs f = ptrsFor (len f)
+  abbrev pub end : ℕ → ℕ
+  end f = home + len f
 
-  -- indirect entry i, and the block that it names
-  unfoldable pub indirect : ℕ → ℕ → ℕ
-  indirect f i = pair v f (indirectAt i)
+  -- ---- the index
 
-  unfoldable pub ptr : ℕ → ℕ → ℕ
-  ptr f i = ldaBlock (π .drive) (indirect f i)
+  -- the block of a key by at most n entries; the FIB is its own
+  unfoldable pub spotIn : ℕ → ℕ → ℕ → ℕ
+  spotIn zero f k = f
+  spotIn (suc n) f k = pick (eqb k home) f (ldaBlock (π .drive) (pair v (spotIn n f (up k)) (slot k)))
 
-  -- the index entry of relative block r, and the block that it names
+  -- a key is present if L asks for it, its entry is not nil and its holder is present; the FIB is
+  unfoldable pub presentIn : ℕ → ℕ → ℕ → Bool
+  presentIn zero f k = true
+  presentIn (suc n) f k =
+      pick (eqb k home) true (both (ltb (first k) (len f)) (both (presentIn n f (up k)) (not (eqb (pair v (spotIn n f (up k)) (slot k)) 0))))
+
+  unfoldable pub spot : ℕ → ℕ → ℕ
+  spot = spotIn 3
+
+  unfoldable pub present : ℕ → ℕ → Bool
+  present = presentIn 3
+
+  -- block r of the file
+  abbrev pub name : ℕ → ℕ → ℕ
+  name f r = spot f (292 + r)
+
+  -- the entry of a key
   unfoldable pub entry : ℕ → ℕ → ℕ
-  entry f r = pick (ltb r 64) (pair v f (directAt r)) (let q = ptr f (ptrIndex r) in pair v q (slotAt (ptrSlot r)))
+  entry f k = pair v (spot f (up k)) (slot k)
 
-  unfoldable pub name : ℕ → ℕ → ℕ
-  name f r = ldaBlock (π .drive) (entry f r)
-
-  -- x is the LDA of a block of s+1..e with the serial PDA(f) and the relative number rel
-  unfoldable pub names : ℕ → ℕ → ℕ → Bool
-  names f x rel =
-      let b = ldaBlock (π .drive) x in
-      every (isLda π x b ∷ inside π b ∷ eqb (serial b) (pda (π .drive) f) ∷ eqb (v b relativeAt) rel ∷ [])
-
-  -- the file's blocks in link order, -(3+P) .. -4, -1, 0 .. L: place i, and how many places there are
-  unfoldable pub nth : ℕ → ℕ → ℕ
-  nth f i = let p = ptrs f in pick (ltb i p) (ptr f (p - suc i)) (pick (eqb i p) f (name f (i - suc p)))
+  -- the least present key, and how many there are
+  unfoldable pub least : ℕ → ℕ
+  least f = seek (span (len f)) (low (len f)) (present f)
 
   unfoldable pub size : ℕ → ℕ
-  size f = ptrs f + suc (len f)
+  size f = let n = len f in count (span n) (λ i. present f (low n + i))
+
+  -- blocks in use, last negative number and its address
+  unfoldable pub tally : ℕ → Bool
+  tally f =
+      every (eqb (v f inUseAt) (size f)
+      ∷ eqb (v f lowNumberAt) (number (least f))
+      ∷ isLda (π .drive) (pair v f lowAddressAt) (spot f (least f))
+      ∷ [])
 
   -- ---- well formed
 
-  -- pointer block i is named with its number, and block r is
-  abbrev pub ptrTest : ℕ → ℕ → Bool
-  ptrTest f i = names f (indirect f i) (pointerNumber i)
+  -- the entry of k decodes to a block of s+1..e with the serial PDA(f) and the right relative number
+  unfoldable pub named : ℕ → ℕ → Bool
+  named f k =
+      let b = spot f k in
+      every (isLda (π .drive) (entry f k) b ∷ inside π b ∷ eqb (serial b) (pda (π .drive) f) ∷ eqb (v b relativeAt) (number k) ∷ [])
 
-  abbrev pub dataTest : ℕ → ℕ → Bool
-  dataTest f r = names f (entry f r) r
+  -- a present key is the FIB's, or named well
+  abbrev pub keyTest : ℕ → ℕ → Bool
+  keyTest f k = not (present f k) || (eqb k home || named f k)
 
-  -- every entry that 0..L needs is good, for p pointer blocks and k blocks
-  unfoldable pub indexed : ℕ → ℕ → ℕ → Bool
-  indexed f p k = both (all p (ptrTest f)) (all k (dataTest f))
+  -- a key that L asks for is present
+  abbrev pub fullTest : ℕ → ℕ → Bool
+  fullTest f k = not (ltb (first k) (len f)) || present f k
 
-  -- entry i of those from word w on in block b is nil, unless i is below k
-  abbrev pub nilTest : ℕ → ℕ → ℕ → ℕ → Bool
-  nilTest b w k i = ltb i k || eqb (pair v b (w + 2 * i)) 0
+  -- an entry of the FIB is asked for by L, or nil
+  abbrev pub nilTest : ℕ → ℕ → Bool
+  nilTest f k = eqb k home || (ltb (first k) (len f) || eqb (pair v f (slot k)) 0)
 
-  -- all other index entries in the FIB are nil
-  unfoldable pub restNil : ℕ → ℕ → ℕ → Bool
-  restNil f p k =
-      every (all 64 (nilTest f (directAt 0) k)
-      ∷ all 32 (nilTest f (indirectAt 0) p)
-      ∷ eqb (pair v f doubleAt) 0
-      ∷ eqb (pair v f doubleAt′) 0
-      ∷ [])
+  -- every key that is present is named well
+  unfoldable pub indexed : ℕ → Bool
+  indexed f = let n = len f in all (span n) (λ i. keyTest f (low n + i))
 
-  -- last address is the LDA of the last block in link order; blocks in use is the number of them; last negative number and its
-  -- address are those of the first
-  unfoldable pub numbered : ℕ → ℕ → ℕ → ℕ → ℕ → Bool
-  numbered f p k last top =
-      every (eqb (v f inUseAt) (p + suc k)
-      ∷ isLda π (pair v f lastAddressAt) last
-      ∷ eqb (v f lowNumberAt) (pick (eqb p 0) fibNumber (65533 - p))
-      ∷ isLda π (pair v f lowAddressAt) top
-      ∷ [])
+  -- every key that L asks for is present
+  unfoldable pub gapless : ℕ → Bool
+  gapless f = let n = len f in all (span n) (λ i. fullTest f (low n + i))
 
   -- a candidate is a file if it is well formed
   unfoldable pub wellFormed : ℕ → Bool
   wellFormed f =
-      let k = len f in
-      let p = ptrs f in
-      every (leb k reach ∷ indexed f p k ∷ restNil f p k ∷ numbered f p k (nth f (p + k)) (nth f 0) ∷ [])
+      every (leb (len f) reach
+      ∷ indexed f
+      ∷ all 99 (λ i. nilTest f (257 + i))
+      ∷ isLda (π .drive) (pair v f lastAddressAt) (spot f (end f))
+      ∷ gapless f
+      ∷ tally f
+      ∷ [])
 
   unfoldable pub isFile : ℕ → Bool
   isFile f = both (candidate f) (wellFormed f)
@@ -152,19 +151,19 @@ module _ (π : Partition) (v : View) where
 
   -- ---- owned
 
-  -- a block's file and its place in it, as its header has them
+  -- a block's file and its key, as its header has them
   abbrev pub fileOf : ℕ → ℕ
   fileOf b = pdaBlock (π .drive) (serial b)
 
-  unfoldable pub place : ℕ → ℕ
-  place b = placeOf (ptrs (fileOf b)) (v b relativeAt)
+  unfoldable pub key : ℕ → ℕ
+  key b = keyOf (v b relativeAt)
 
-  -- a file's FIB or a block that its index names: its header leads to a file, and the file to this very block
+  -- a file's FIB or a block that its index names: its header leads to a file and a key, and they to this very block
   unfoldable pub owned : ℕ → Bool
   owned b =
       let f = fileOf b in
-      let i = place b in
-      both (eqb (serial b) (pda (π .drive) f)) (both (isFile f) (both (ltb i (size f)) (eqb (nth f i) b)))
+      let k = key b in
+      both (eqb (serial b) (pda (π .drive) f)) (both (isFile f) (both (present f k) (eqb (spot f k) b)))
 
   -- the files, and the blocks that are not owned, in ascending order
   unfoldable pub files : List ℕ
@@ -173,28 +172,33 @@ module _ (π : Partition) (v : View) where
   unfoldable pub unowned : List ℕ
   unowned = those (suc (π .s)) (π .e - π .s) (λ b. not (owned b))
 
-  -- ---- links
+  -- ---- link order
 
-  -- the links that place i of f should have: the PDA of the neighbour, nil at the ends
-  unfoldable pub nextOf : ℕ → ℕ → ℕ
-  nextOf f i = pick (ltb (suc i) (size f)) (pda (π .drive) (nth f (suc i))) 0
+  -- the next present key above k and below k, or 0
+  unfoldable pub above : ℕ → ℕ → ℕ
+  above f k = seek (end f - k) (suc k) (present f)
 
-  unfoldable pub prevOf : ℕ → ℕ → ℕ
-  prevOf f i = pick (eqb i 0) 0 (pda (π .drive) (nth f (i - 1)))
+  unfoldable pub below : ℕ → ℕ → ℕ
+  below f k = down (low (len f)) (k - low (len f)) (present f)
 
+  -- the link to key k: the PDA of its block, nil for none
+  unfoldable pub link : ℕ → ℕ → ℕ
+  link f k = pick (eqb k 0) 0 (pda (π .drive) (spot f k))
+
+  -- entry i of pointer block k is asked for by L, or nil
+  abbrev pub tailTest : ℕ → ℕ → ℕ → Bool
+  tailTest f k i = ltb (first (child k (slotAt i))) (len f) || eqb (pair v (spot f k) (slotAt i)) 0
+
+  -- a present key's block is linked to its neighbours, and a pointer block's unused entries are nil
   abbrev pub linkTest : ℕ → ℕ → Bool
-  linkTest f i = let b = nth f i in both (eqb (pair v b nextAt) (nextOf f i)) (eqb (pair v b previousAt) (prevOf f i))
+  linkTest f k =
+      not (present f k) || every (eqb (pair v (spot f k) nextAt) (link f (above f k))
+      ∷ eqb (pair v (spot f k) previousAt) (link f (below f k))
+      ∷ (leb home k || all 128 (tailTest f k))
+      ∷ [])
 
-  -- entry i of the last of p pointer blocks is used by the k blocks, or nil
-  abbrev pub tailTest : ℕ → ℕ → ℕ → ℕ → Bool
-  tailTest f p k i = ltb (64 + 128 * (p - 1) + i) k || eqb (pair v (ptr f (p - 1)) (slotAt i)) 0
-
-  -- the file's blocks are linked both ways in order; the unused entries of its last pointer block are nil
   unfoldable pub linked : ℕ → Bool
-  linked f =
-      let p = ptrs f in
-      let k = len f in
-      both (all (size f) (linkTest f)) (eqb p 0 || all 128 (tailTest f p k))
+  linked f = let n = len f in all (span n) (λ i. linkTest f (low n + i))
 
   -- ---- the free chain
 
@@ -232,8 +236,8 @@ module _ (π : Partition) (v : View) where
       every (all (π .e - π .s) (onceTest c)
       ∷ within π c
       ∷ chained 0 c
-      ∷ isLda π (pair v (π .s) freeHeadAt) (headOf 0 c)
-      ∷ isLda π (pair v (π .s) freeTailAt) (lastOf 0 c)
+      ∷ isLda (π .drive) (pair v (π .s) freeHeadAt) (headOf 0 c)
+      ∷ isLda (π .drive) (pair v (π .s) freeTailAt) (lastOf 0 c)
       ∷ eqb (pair v (π .s) numberFreeAt) (length c)
       ∷ ltb 0 (length c)
       ∷ [])

@@ -1,19 +1,22 @@
--- What a file rests on. Two views that agree there agree on whether it is well formed, on its blocks and on their places.
+-- What a file rests on. Two views that agree there agree on whether it is well formed, on what is present and where, and on link order.
 use mathlib.Core.Path.{_≡_, refl, sym, ap, ap₂, _∙_, subst}
 use mathlib.Core.Logic.{_⊎_, inl, inr, _≢_}
 use mathlib.Core.List.{List, [], _∷_}
-use mathlib.Core.Bool.{Bool, true, false, not, _&&_, _||_}
-use Prim.Native.Nat.{ℕ, zero, suc, _+_, _-_, _*_, _/_, _%_, _≤_, _<_}
-use native.Mathlib.Nat.{le-refl, le-trans, le-suc, not-suc-le-zero}
-use native.Mathlib.Omega.{arith}
-use lib.Dec.{leb, ltb, eqb}
-use borrow.Author.Tests.{ltb-true, ltb-false, eqb-true, eqb-false, lt-ltb, le-ltb, eq-eqb, ne-eqb, le-leb, lt-leb, leb-true}
-use Rattle.base.specs.Tests.{pick, both, every, all, count, those}
-use Rattle.drive.specs.Address.{pda, pdaBlock, lda, ldaBlock}
-use Rattle.image.specs.View.{upd-same, upd-other, View, Rec, upd, pair}
-use Rattle.base.specs.Laws.{and-left, and-right, and-both, all-at, all-of, all-same, pick-same, cons-same}
-use Rattle.volume.specs.Words.{slotAt}
-use Rattle.volume.specs.Files.{Partition, isLda, ptrIndex, ptrSlot, ptrTest, dataTest, nilTest, indexed, restNil, numbered, reach, inside, serial, candidate, len, ptrsFor, ptrs, indirect, ptr, entry, name, names, nth, size, wellFormed, isFile, placeOf, place, fileOf, owned}
+use mathlib.Core.Bool.{Bool, true, not}
+use Prim.Native.Nat.{ℕ, zero, suc, _+_, _-_, _*_, _%_, _≤_, _<_}
+use lib.Dec.{eqb}
+use borrow.Author.Tests.{eqb-false}
+use Rattle.base.specs.Tests.{pick, every, count, those}
+use Rattle.base.specs.Laws.{pick-same, cons-same, iff-eq, both-left, both-of}
+use Rattle.drive.specs.Address.{pda, pdaBlock, ldaBlock}
+use Rattle.image.specs.View.{View, Rec, pair}
+use Rattle.volume.specs.Words.{lastBlockAt, lastAddressAt, inUseAt, lowNumberAt, lowAddressAt}
+use Rattle.volume.specs.Order.{least-present}
+use Rattle.volume.specs.Search.{seek, down, seek-same, down-same, count-same}
+use Rattle.volume.specs.Keys.{home, keyOf, number, reach, up, slot, first, low, span}
+use Rattle.volume.specs.KeyLaws.{key-ind}
+use Rattle.volume.specs.Files.{Partition, isLda, candidate, len, spot, present, entry, wellFormed, isFile, fileOf, key, owned, files, unowned, above, below, least, size, tally, link}
+use Rattle.volume.specs.Index.{here-of, of-here, spot-home, spot-step, present-home, Member, WF, wf-of, of-wf, own, owned-by, file-candidate}
 
 -- two records with the same serial and relative number
 pub record SameHead (r r′ : Rec) : Type 0 where
@@ -30,117 +33,215 @@ head-of q = record { low = ap (λ (x : Rec). x 0) q; high = ap (λ (x : Rec). x 
 pub head-trans : {r r′ r″ : Rec} → SameHead r r′ → SameHead r′ r″ → SameHead r r″
 head-trans a b = record { low = a .low ∙ b .low; high = a .high ∙ b .high; rel = a .rel ∙ b .rel }
 
+pub head-sym : {r r′ : Rec} → SameHead r r′ → SameHead r′ r
+head-sym a = record { low = sym (a .low); high = sym (a .high); rel = sym (a .rel) }
+
 module _ (π : Partition) (v v′ : View) (f : ℕ) where
-  -- what f's form rests on: headers, the FIB but for its description, the used entries of pointer blocks
+  -- L and its address; the headers of what is present; the entries in what is present, those that L asks for and all of the FIB's
   pub record Shape : Type 0 where
-    pub head : SameHead (v f) (v′ f)
-    pub fib : (w : ℕ) → 60 ≤ w → v f w ≡ v′ f w
-    pub ptrHead : (p : ℕ) → p < ptrs π v f → SameHead (v (ptr π v f p)) (v′ (ptr π v f p))
-    pub dataHead : (r : ℕ) → r < len π v f → SameHead (v (name π v f r)) (v′ (name π v f r))
-    pub slots : (r : ℕ) → r < len π v f → 64 ≤ r
-        → pair v (ptr π v f (ptrIndex r)) (slotAt (ptrSlot r)) ≡ pair v′ (ptr π v f (ptrIndex r)) (slotAt (ptrSlot r))
+    pub length : v f lastBlockAt ≡ v′ f lastBlockAt
+    pub last : pair v f lastAddressAt ≡ pair v′ f lastAddressAt
+    pub used : v f inUseAt ≡ v′ f inUseAt
+    pub lowest : v f lowNumberAt ≡ v′ f lowNumberAt
+    pub lowAt : pair v f lowAddressAt ≡ pair v′ f lowAddressAt
+    pub heads : (k : ℕ) → present π v f k ≡ true → SameHead (v (spot π v f k)) (v′ (spot π v f k))
+    pub entries : (k : ℕ) → k ≢ home → present π v f (up k) ≡ true → (first k < len π v f) ⊎ (up k ≡ home)
+        → pair v (spot π v f (up k)) (slot k) ≡ pair v′ (spot π v f (up k)) (slot k)
 
   -- its form, its description and its bytes
   pub record Kept : Type 0 where
     pub shape : Shape
-    pub text : (w : ℕ) → 8 ≤ w → v f w ≡ v′ f w
-    pub bytes : (r : ℕ) → r < len π v f → (w : ℕ) → 8 ≤ w → v (name π v f r) w ≡ v′ (name π v f r) w
+    pub text : (w : ℕ) → 8 ≤ w → w < 60 → v f w ≡ v′ f w
+    pub kind : v f 256 ≡ v′ f 256
+    pub bytes : (k : ℕ) → home < k → present π v f k ≡ true → (w : ℕ) → 8 ≤ w → v (spot π v f k) w ≡ v′ (spot π v f k) w
 
-  -- names with the same address, whose block has the same header
-  pub names-same : (x y rel : ℕ) → x ≡ y → SameHead (v ((ldaBlock (π .drive)) x)) (v′ ((ldaBlock (π .drive)) x)) → names π v f x rel ≡ names π v′ f y rel
-  unfolding names
-  names-same x y rel e₁ h =
-      ap₂ (λ (a c : ℕ). every (isLda π x (ldaBlock (π .drive) x) ∷ inside π (ldaBlock (π .drive) x) ∷ eqb a (pda (π .drive) f) ∷ eqb c rel ∷ [])) (same-serial h) (h .rel)
-      ∙ ap (λ (z : ℕ). names π v′ f z rel) e₁
-
-  module _ (k : Shape) where
-    fibPair : (w : ℕ) → 60 ≤ w → pair v f w ≡ pair v′ f w
-    fibPair w h = ap₂ (λ (x y : ℕ). x + 65536 * y) (k .fib w h) (k .fib (w + 1) (omega arith))
-
+  module _ (s : Shape) where
     pub kept-len : len π v f ≡ len π v′ f
     unfolding len
-    kept-len = ap (λ (x : ℕ). (x + 1) % 65536) (k .fib 258 (omega arith))
+    kept-len = ap (λ (x : ℕ). (x + 1) % 65536) (s .length)
 
-    pub kept-ptrs : ptrs π v f ≡ ptrs π v′ f
-    unfolding ptrs
-    kept-ptrs = ap ptrsFor kept-len
+    -- once over the level: present alike, and what is present stands where it stood
+    record Alike (k : ℕ) : Type 0 where
+      pub pre : present π v f k ≡ present π v′ f k
+      pub at : present π v f k ≡ true → spot π v f k ≡ spot π v′ f k
 
-    pub kept-indirect : (p : ℕ) → indirect π v f p ≡ indirect π v′ f p
-    unfolding indirect
-    kept-indirect p = fibPair (188 + 2 * p) (omega arith)
-
-    pub kept-ptr : (p : ℕ) → ptr π v f p ≡ ptr π v′ f p
-    unfolding ptr
-    kept-ptr p = ap (ldaBlock (π .drive)) (kept-indirect p)
-
-    pub kept-entry : (r : ℕ) → r < len π v f → entry π v f r ≡ entry π v′ f r
+    entry-same : (k : ℕ) → k ≢ home → present π v f (up k) ≡ true → (first k < len π v f) ⊎ (up k ≡ home) → spot π v f (up k) ≡ spot π v′ f (up k)
+        → entry π v f k ≡ entry π v′ f k
     unfolding entry
-    kept-entry r h = pick-same (ltb r 64) (λ _. fibPair (60 + 2 * r) (omega arith))
-        (λ n. k .slots r h (ltb-false r 64 n) ∙ ap (λ (q : ℕ). pair v′ q (slotAt (ptrSlot r))) (kept-ptr (ptrIndex r)))
+    entry-same k n g a q = s .entries k n g a ∙ ap (λ (b : ℕ). pair v′ b (slot k)) q
 
-    pub kept-name : (r : ℕ) → r < len π v f → name π v f r ≡ name π v′ f r
-    unfolding name
-    kept-name r h = ap (ldaBlock (π .drive)) (kept-entry r h)
+    alike : (k : ℕ) → Alike k
+    alike = key-ind Alike home-alike step
+      where
+        home-alike : Alike home
+        home-alike = record { pre = present-home π v f ∙ sym (present-home π v′ f); at = λ _. spot-home π v f ∙ sym (spot-home π v′ f) }
+
+        step : (k : ℕ) → k ≢ home → Alike (up k) → Alike k
+        step k n ih = record {
+          pre = iff-eq _ _
+              (λ p. let h = here-of π v f k n p in of-here π v′ f k n (record {
+                asked = subst (λ (x : ℕ). first k < x) kept-len (h .asked);
+                held = sym (ih .pre) ∙ h .held;
+                said = λ z. h .said (same (h .held) (inl (h .asked)) ∙ z);
+              }))
+              (λ p. let h = here-of π v′ f k n p in
+              let g = ih .pre ∙ h .held in
+              let a = subst (λ (x : ℕ). first k < x) (sym kept-len) (h .asked) in
+              of-here π v f k n (record { asked = a; held = g; said = λ z. h .said (sym (same g (inl a)) ∙ z) }));
+          at = λ p. let h = here-of π v f k n p in spot-step π v f k n ∙ ap (ldaBlock (π .drive)) (same (h .held) (inl (h .asked))) ∙ sym (spot-step π v′ f k n);
+        }
+          where
+            same : present π v f (up k) ≡ true → (first k < len π v f) ⊎ (up k ≡ home) → entry π v f k ≡ entry π v′ f k
+            same g a = entry-same k n g a (ih .at g)
+
+    pub kept-present : (k : ℕ) → present π v f k ≡ present π v′ f k
+    kept-present k = alike k .pre
+
+    pub kept-spot : (k : ℕ) → present π v f k ≡ true → spot π v f k ≡ spot π v′ f k
+    kept-spot k = alike k .at
+
+    pub kept-entry : (k : ℕ) → k ≢ home → present π v f k ≡ true → entry π v f k ≡ entry π v′ f k
+    kept-entry k n p = let h = here-of π v f k n p in entry-same k n (h .held) (inl (h .asked)) (kept-spot (up k) (h .held))
+
+    -- link order
+    pub kept-above : (k : ℕ) → above π v f k ≡ above π v′ f k
+    unfolding above
+    kept-above k = seek-same _ _ _ _ kept-present ∙ ap (λ (n : ℕ). seek (home + n - k) (suc k) (present π v′ f)) kept-len
+
+    pub kept-below : (k : ℕ) → below π v f k ≡ below π v′ f k
+    unfolding below
+    kept-below k = down-same _ _ _ _ kept-present ∙ ap (λ (n : ℕ). down (low n) (k - low n) (present π v′ f)) kept-len
+
+    pub kept-least : least π v f ≡ least π v′ f
+    unfolding least
+    kept-least = seek-same _ _ _ _ kept-present ∙ ap (λ (n : ℕ). seek (span n) (low n) (present π v′ f)) kept-len
 
     pub kept-size : size π v f ≡ size π v′ f
     unfolding size
-    kept-size = ap₂ (λ (x y : ℕ). x + suc y) kept-ptrs kept-len
+    kept-size = count-same _ _ _ (λ i. kept-present (low (len π v f) + i)) ∙ ap (λ (n : ℕ). count (span n) (λ i. present π v′ f (low n + i))) kept-len
 
-    pub kept-nth : (i : ℕ) → i < size π v f → nth π v f i ≡ nth π v′ f i
-    unfolding nth size
-    kept-nth i h =
-        let p = ptrs π v f in
-        pick-same (ltb i p) (λ _. kept-ptr (p - suc i))
-        (λ n. pick-same (eqb i p) (λ _. refl) (λ m. kept-name (i - suc p) (omega (arith, ltb-false i p n, eqb-false i p m))))
-        ∙ ap (λ (q : ℕ). pick (ltb i q) (ptr π v′ f (q - suc i)) (pick (eqb i q) f (name π v′ f (i - suc q)))) kept-ptrs
+    pub kept-link : (k : ℕ) → (k ≢ 0 → present π v f k ≡ true) → link π v f k ≡ link π v′ f k
+    unfolding link
+    kept-link k h = pick-same (eqb k 0) (λ _. refl) (λ q. ap (pda (π .drive)) (kept-spot k (h (eqb-false k 0 q))))
 
-    kept-top : nth π v f 0 ≡ nth π v′ f 0
-    unfolding size
-    kept-top = kept-nth 0 (omega arith)
+    pub fib-entry : (k : ℕ) → k ≢ home → up k ≡ home → pair v f (slot k) ≡ pair v′ f (slot k)
+    fib-entry k n q =
+        subst (λ (b : ℕ). pair v b (slot k) ≡ pair v′ b (slot k)) (ap (spot π v f) q ∙ spot-home π v f) (s .entries k n (ap (present π v f) q ∙ present-home π v f) (inr q))
 
-    kept-end : nth π v f (ptrs π v f + len π v f) ≡ nth π v′ f (ptrs π v′ f + len π v′ f)
-    unfolding size
-    kept-end = kept-nth (ptrs π v f + len π v f) (omega arith) ∙ ap₂ (λ (x y : ℕ). nth π v′ f (x + y)) kept-ptrs kept-len
+    kept-tally : wellFormed π v f ≡ true → tally π v f ≡ true → tally π v′ f ≡ true
+    unfolding tally
+    kept-tally h t = sym (ap every
+        (cons-same (ap₂ eqb (s .used) kept-size)
+        (cons-same (ap₂ (λ (x y : ℕ). eqb x (number y)) (s .lowest) kept-least)
+        (cons-same {l = []} (ap₂ (isLda (π .drive)) (s .lowAt) (kept-spot (least π v f) (least-present π v f h .1) ∙ ap (spot π v′ f) kept-least)) refl)))) ∙ t
 
-    kept-indexed : indexed π v f (ptrs π v f) (len π v f) ≡ indexed π v′ f (ptrs π v′ f) (len π v′ f)
-    unfolding indexed ptr name
-    kept-indexed = ap₂ both
-        (all-same (ptrs π v f) _ _ (λ i h. names-same (indirect π v f i) (indirect π v′ f i) (65532 - i) (kept-indirect i) (k .ptrHead i h))
-        ∙ ap (λ (n : ℕ). all n (ptrTest π v′ f)) kept-ptrs)
-        (all-same (len π v f) _ _ (λ r h. names-same (entry π v f r) (entry π v′ f r) r (kept-entry r h) (k .dataHead r h))
-        ∙ ap (λ (n : ℕ). all n (dataTest π v′ f)) kept-len)
-
-    kept-restNil : restNil π v f (ptrs π v f) (len π v f) ≡ restNil π v′ f (ptrs π v′ f) (len π v′ f)
-    unfolding restNil
-    kept-restNil = ap every
-        (cons-same (all-same 64 _ _ (λ r h. ap₂ (λ (x y : ℕ). ltb r x || eqb y 0) kept-len (fibPair (60 + 2 * r) (omega arith))))
-        (cons-same (all-same 32 _ _ (λ r h. ap₂ (λ (x y : ℕ). ltb r x || eqb y 0) kept-ptrs (fibPair (188 + 2 * r) (omega arith))))
-        (cons-same (ap (λ (x : ℕ). eqb x 0) (fibPair 252 (omega arith)))
-        (cons-same (ap (λ (x : ℕ). eqb x 0) (fibPair 254 (omega arith))) refl))))
-
-    kept-numbered : numbered π v f (ptrs π v f) (len π v f) (nth π v f (ptrs π v f + len π v f)) (nth π v f 0)
-        ≡ numbered π v′ f (ptrs π v′ f) (len π v′ f) (nth π v′ f (ptrs π v′ f + len π v′ f)) (nth π v′ f 0)
-    unfolding numbered
-    kept-numbered = ap every
-        (cons-same (ap₂ eqb (k .fib 257 (omega arith)) (ap₂ (λ (x y : ℕ). x + suc y) kept-ptrs kept-len))
-        (cons-same (ap₂ (λ (x y : ℕ). eqb x (lda (π .drive) y)) (fibPair 259 (omega arith)) kept-end)
-        (cons-same (ap₂ (λ (x y : ℕ). eqb x (pick (eqb y 0) 65535 (65533 - y))) (k .fib 261 (omega arith)) kept-ptrs)
-        (cons-same (ap₂ (λ (x y : ℕ). eqb x (lda (π .drive) y)) (fibPair 262 (omega arith)) kept-top) refl))))
-
-    pub kept-wellFormed : wellFormed π v f ≡ wellFormed π v′ f
-    unfolding wellFormed
-    kept-wellFormed =
-        ap every (cons-same (ap (λ (x : ℕ). leb x reach) kept-len)
-        (cons-same kept-indexed (cons-same kept-restNil (cons-same kept-numbered refl))))
-
-    pub kept-head : (i : ℕ) → i < size π v f → SameHead (v (nth π v f i)) (v′ (nth π v f i))
-    unfolding nth size
-    kept-head i h = go (ltb i p) refl (eqb i p) refl
+    pub kept-formed : wellFormed π v f ≡ true → wellFormed π v′ f ≡ true
+    kept-formed h = of-wf π v′ f (record {
+      short = subst (λ (n : ℕ). n ≤ reach) kept-len (w .short);
+      good = λ k n p. let g = kept-present k ∙ p in ap₂ (isLda (π .drive)) (sym (kept-entry k n g)) (sym (kept-spot k g)) ∙ w .good k n g;
+      mine = λ k n p. let g = kept-present k ∙ p in
+          let m = w .mine k n g in
+          subst (λ (b : ℕ). Member π v′ f b k) (kept-spot k g) (record { ins = m .ins; ser = sym (same-serial (s .heads k g)) ∙ m .ser; num = sym (s .heads k g .rel) ∙ m .num });
+      nil = λ k n q l. sym (fib-entry k n q) ∙ w .nil k n q (subst (λ (x : ℕ). x ≤ first k) (sym kept-len) l);
+      ends = subst (λ (n : ℕ). present π v′ f (home + n) ≡ true) kept-len (sym (kept-present (home + len π v f)) ∙ w .ends);
+      last = ap₂ (isLda (π .drive)) (sym (s .last)) (ap (λ (n : ℕ). spot π v′ f (home + n)) (sym kept-len) ∙ sym (kept-spot (home + len π v f) (w .ends))) ∙ w .last;
+      full = λ k l. sym (kept-present k) ∙ w .full k (subst (λ (n : ℕ). first k < n) (sym kept-len) l);
+      tallied = kept-tally h (w .tallied);
+    })
       where
-        p : ℕ
-        p = ptrs π v f
+        w : WF π v f
+        w = wf-of π v f h
 
-        go : (t : Bool) → ltb i p ≡ t → (u : Bool) → eqb i p ≡ u → SameHead (v (pick t (ptr π v f (p - suc i)) (pick u f (name π v f (i - suc p))))) (v′ (pick t (ptr π v f (p - suc i)) (pick u f (name π v f (i - suc p)))))
-        go true a u c = k .ptrHead (p - suc i) (omega (arith, ltb-true i p a))
-        go false a true c = k .head
-        go false a false c = k .dataHead (i - suc p) (omega (arith, ltb-false i p a, eqb-false i p c))
+-- the agreement is mutual
+pub shape-sym : (π : Partition) (v v′ : View) (f : ℕ) → Shape π v v′ f → Shape π v′ v f
+shape-sym π v v′ f s = record {
+  length = sym (s .length);
+  last = sym (s .last);
+  used = sym (s .used);
+  lowest = sym (s .lowest);
+  lowAt = sym (s .lowAt);
+  heads = λ k p. let g = kept-present π v v′ f s k ∙ p in subst (λ (b : ℕ). SameHead (v′ b) (v b)) (kept-spot π v v′ f s k g) (head-sym (s .heads k g));
+  entries = λ k n p a.
+      let g = kept-present π v v′ f s (up k) ∙ p in
+      subst (λ (b : ℕ). pair v′ b (slot k) ≡ pair v b (slot k)) (kept-spot π v v′ f s (up k) g)
+      (sym (s .entries k n g (subst (λ (x : ℕ). (first k < x) ⊎ (up k ≡ home)) (sym (kept-len π v v′ f s)) a)));
+}
+
+pub kept-wellFormed : (π : Partition) (v v′ : View) (f : ℕ) → Shape π v v′ f → wellFormed π v f ≡ wellFormed π v′ f
+kept-wellFormed π v v′ f s = iff-eq _ _ (kept-formed π v v′ f s) (kept-formed π v′ v f (shape-sym π v v′ f s))
+
+pub those-same : (i k : ℕ) (P Q : ℕ → Bool) → ((j : ℕ) → P j ≡ Q j) → those i k P ≡ those i k Q
+unfolding those
+those-same i zero P Q h = refl
+those-same i (suc k) P Q h = ap₂ (λ (t : Bool) (r : List ℕ). pick t (i ∷ r) r) (h i) (those-same (suc i) k P Q h)
+
+-- ---- all files
+
+module _ (π : Partition) where
+  -- no candidate is malformed
+  abbrev pub Clean : View → Type 0
+  Clean v = (f : ℕ) → candidate π v f ≡ true → wellFormed π v f ≡ true
+
+  -- the same candidates, each of the same form; and with the same content
+  pub record Formed (v v′ : View) : Type 0 where
+    pub shape : (f : ℕ) → candidate π v f ≡ true → Shape π v v′ f
+    pub cands : (f : ℕ) → candidate π v f ≡ candidate π v′ f
+
+  pub record Agree (v v′ : View) : Type 0 where
+    pub kept : (f : ℕ) → candidate π v f ≡ true → Kept π v v′ f
+    pub cands : (f : ℕ) → candidate π v f ≡ candidate π v′ f
+
+  pub formed : {v v′ : View} → Agree v v′ → Formed v v′
+  formed a = record { shape = λ f c. a .kept f c .shape; cands = a .cands }
+
+  pub formed-sym : {v v′ : View} → Formed v v′ → Formed v′ v
+  formed-sym {v} {v′} a = record { shape = λ f c. shape-sym π v v′ f (a .shape f (a .cands f ∙ c)); cands = λ f. sym (a .cands f) }
+
+  module _ (v v′ : View) (c : Clean v) (a : Formed v v′) where
+    pub agree-clean : Clean v′
+    agree-clean f h = let g = a .cands f ∙ h in sym (kept-wellFormed π v v′ f (a .shape f g)) ∙ c f g
+
+    pub agree-file : (f : ℕ) → isFile π v f ≡ isFile π v′ f
+    unfolding isFile
+    agree-file f =
+        iff-eq _ _
+        (λ h. let g = both-left _ _ h in both-of (sym (a .cands f) ∙ g) (agree-clean f (sym (a .cands f) ∙ g)))
+        (λ h. let g = a .cands f ∙ both-left _ _ h in both-of g (c f g))
+
+    pub agree-files : files π v ≡ files π v′
+    unfolding files
+    agree-files = those-same (suc (π .s)) ((π .e) - (π .s)) _ _ agree-file
+
+    -- an owned block's header leads to the same file and key
+    pub agree-head : (b : ℕ) → owned π v b ≡ true → SameHead (v b) (v′ b)
+    agree-head b h =
+        let o = own π v b h in
+        subst (λ (x : ℕ). SameHead (v x) (v′ x)) (o .back) (a .shape (fileOf π v b) (file-candidate π v _ (o .file)) .heads (key π v b) (o .here))
+
+    pub agree-fileOf : (b : ℕ) → owned π v b ≡ true → fileOf π v b ≡ fileOf π v′ b
+    agree-fileOf b h = ap (pdaBlock (π .drive)) (same-serial (agree-head b h))
+
+    pub agree-key : (b : ℕ) → owned π v b ≡ true → key π v b ≡ key π v′ b
+    unfolding key
+    agree-key b h = ap keyOf (agree-head b h .rel)
+
+    pub agree-owns : (b : ℕ) → owned π v b ≡ true → owned π v′ b ≡ true
+    agree-owns b h =
+        let f = fileOf π v b in
+        let k = key π v b in
+        let o = own π v b h in
+        let s = a .shape f (file-candidate π v f (o .file)) in
+        owned-by π v′ b f k (sym (agree-fileOf b h)) (sym (agree-key b h)) (record {
+          ser = sym (same-serial (agree-head b h)) ∙ o .ser;
+          file = sym (agree-file f) ∙ o .file;
+          here = sym (kept-present π v v′ f s k) ∙ o .here;
+          back = sym (kept-spot π v v′ f s k (o .here)) ∙ o .back;
+        })
+
+  module _ (v v′ : View) (c : Clean v) (a : Formed v v′) where
+    pub agree-owned : (b : ℕ) → owned π v b ≡ owned π v′ b
+    agree-owned b = iff-eq _ _ (agree-owns v v′ c a b) (agree-owns v′ v (agree-clean v v′ c a) (formed-sym a) b)
+
+    pub agree-unowned : unowned π v ≡ unowned π v′
+    unfolding unowned
+    agree-unowned = those-same (suc (π .s)) ((π .e) - (π .s)) _ _ (λ b. ap not (agree-owned b))

@@ -3,7 +3,7 @@
 use mathlib.Core.Path.{_≡_, refl}
 use mathlib.Core.List.{List, [], _∷_}
 use Prim.Native.Nat.{ℕ, _+_, _*_}
-use Rattle.volume.specs.Words.{serialAt, relativeAt, fillerAt, nextAt, previousAt, dataAt, slotAt, directAt, indirectAt, doubleAt, doubleAt′, kindAt, inUseAt, lastBlockAt, lastAddressAt, lowNumberAt, lowAddressAt, freeHeadAt, freeTailAt, numberFreeAt, partitionStartAt, partitionEndAt}
+use Rattle.volume.specs.Words.{serialAt, relativeAt, fillerAt, nextAt, previousAt, dataAt, slotAt, directAt, indirectAt, doubleAt, kindAt, inUseAt, lastBlockAt, lastAddressAt, lowNumberAt, lowAddressAt, freeHeadAt, freeTailAt, numberFreeAt, partitionStartAt, partitionEndAt}
 
 -- where fields of these sizes stand, the first at place i, and where the last one ends
 abbrev pub placesFrom : ℕ → List ℕ → List ℕ
@@ -17,7 +17,7 @@ header-places = refl
 -- file block: description, 64 direct, 32 indirect, two double entries, kind, blocks in use, last block, last address, last negative
 -- number, its address; a record ends at word 264
 pub fib-places : placesFrom (dataAt 0) (52 ∷ 64 * 2 ∷ 32 * 2 ∷ 2 ∷ 2 ∷ 1 ∷ 1 ∷ 1 ∷ 2 ∷ 1 ∷ 2 ∷ [])
-    ≡ dataAt 0 ∷ directAt 0 ∷ indirectAt 0 ∷ doubleAt ∷ doubleAt′ ∷ kindAt ∷ inUseAt ∷ lastBlockAt ∷ lastAddressAt ∷ lowNumberAt ∷ lowAddressAt ∷ 264 ∷ []
+    ≡ dataAt 0 ∷ directAt 0 ∷ indirectAt 0 ∷ doubleAt ∷ (doubleAt + 2) ∷ kindAt ∷ inUseAt ∷ lastBlockAt ∷ lastAddressAt ∷ lowNumberAt ∷ lowAddressAt ∷ 264 ∷ []
 fib-places = refl
 
 -- pointer block: 128 entries

@@ -1,25 +1,27 @@
 -- Each of document 01's numbers 1 to 10 is given by some input: no refusal is vacuous. By computation.
 use mathlib.Core.Path.{_≡_, refl}
-use mathlib.Core.Bool.{Bool, true, false, not, _&&_}
 use mathlib.Core.List.{List, [], _∷_, _++_}
-use Prim.Native.Nat.{ℕ, zero, suc, _+_, _-_, _*_, _/_, _%_}
-use lib.Dec.{leb, ltb, eqb}
+use Prim.Native.Nat.{ℕ, _+_, _-_}
+use lib.Dec.{eqb}
 use lib.ListN.{take}
-use Rattle.base.specs.Tests.{pick, both, every, tabFrom, headOf, lastOf, those, above, below, all, count, occ, sameRow, sameTable}
+use Rattle.base.specs.Tests.{pick, both, every, tabFrom, headOf, lastOf, those, all, count, occ, sameRow, sameTable}
+use Rattle.base.specs.Tests as tests
 use Rattle.base.specs.Laws.{same-table}
-use Rattle.base.specs.Refusals.{number}
+use Rattle.base.specs.Refusals as refusals
 use Rattle.drive.specs.Code.{placeNumber, guess}
 use Rattle.drive.specs.Rows.{onDrive}
 use Rattle.drive.specs.Address.{blocks, pda, pdaBlock, lda, ldaBlock, fileId, fileIdBlock, fileIds}
 use Rattle.drive.specs.Answers.{lbnToPda, lbnToLda, pdaToLbn, ldaToLbn, lbnToFileId}
-use Rattle.image.specs.View.{View, Rec, after, pair, put, put2, blank}
+use Rattle.image.specs.View.{View, after, pair, put, put2, blank}
 use Rattle.image.specs.Saves.{withData, withText, words}
-use Rattle.volume.specs.Files.{Partition, partitionOf, inside, within, ptrIndex, ptrSlot, ptrsFor, placeOf, candidate, len, ptrs, indirect, ptr, entry, name, names, nth, size, indexed, restNil, numbered, wellFormed, isFile, isMalformed, place, owned, files, unowned, nextOf, prevOf, linked, chain, free, chained, freeSound, sound}
-use Rattle.volume.specs.Plans.{newFirst, pibLess, freshFib, datum, newPointer, slotted, pointerStores, lastStores, topStores, grownFib, put2If, appended, gone, topGone, fibGone, topGoneStores, lastGoneStores, pibMore, destroyed, trimmed, stores, createPlan, replacePlan, grows, appendPlan, describePlan, destroyPlan, content, relinked, freed, repaired, repairedPib, repairPlan}
-use Rattle.volume.specs.Calls.{Planned, createIn, appendIn, writeIn, describeIn, destroyIn, repairIn}
-use lib.ListN.{replicate, length}
+use Rattle.volume.specs.Search.{seek, down}
+use Rattle.volume.specs.Keys.{keyOf, number, up, slot, child, first, low, span}
+use Rattle.volume.specs.Files.{Partition, partitionOf, isLda, address, inside, within, candidate, len, spotIn, presentIn, spot, present, entry, least, size, tally, named, indexed, gapless, wellFormed, isFile, isMalformed, key, owned, files, unowned, above, below, link, linked, chain, free, chained, freeSound, sound}
+use Rattle.volume.specs.Plans.{newFirst, pibLess, freshFib, gone, topGone, fibGone, topGoneStores, lastGoneStores, pibMore, destroyed, trimmed, shaped, stores, freeAt, takenStores, createPlan, describePlan, destroyPlan, content, relinked, freed, repaired, repairedPib, repairPlan}
+use Rattle.volume.specs.Writes.{put2If, over, counted, inner, needs, isNew, fresh, len′, present′, spot′, above′, below′, least′, size′, link′, early, empty, base, entered, ended, body, grown, planOf, writePlan, replacePlan}
+use Rattle.volume.specs.Calls.{createIn, appendIn, writeIn, describeIn, destroyIn, repairIn}
+use lib.ListN.{replicate}
 use Rattle.image.specs.Image.{view}
-use Rattle.base.specs.declared.Refusal.{Refusal}
 use Rattle.volume.specs.declared.Part.{Part}
 use Rattle.volume.specs.declared.Part.the-variants as part
 use Rattle.volume.specs.Words.{serialAt, relativeAt, fillerAt, nextAt, previousAt, dataAt, lastBlockAt, kindAt}
@@ -29,7 +31,7 @@ use Rattle.volume.specs.Table.{outcomeOf, oneNumber, seven, zeroed, bloc
 -- a partition's refusal
 abbrev pub partOf : Part → List ℕ
 partOf (part.Good e) = []
-partOf (part.Refused y) = 2 ∷ number y ∷ []
+partOf (part.Refused y) = 2 ∷ refusals.number y ∷ []
 
 -- the bytes of an image of three records on a floppy whose partition is 1..2
 pub small : List ℕ
@@ -47,7 +49,7 @@ pub torn : View
 torn b = pick (eqb b 5) (put lastBlockAt 0 (freshFib 0 (λ _. blank) 5 0)) blank
 
 pub given : List (List ℕ)
-unfolding view zeroed small taken torn both every all count tabFrom those occ lastOf headOf above below onDrive placeNumber guess blocks pda pdaBlock lda ldaBlock fileId fileIdBlock fileIds lbnToPda lbnToLda ldaToLbn pdaToLbn lbnToFileId after put put2 blank withData withText words inside within ptrsFor placeOf candidate len ptrs indirect ptr entry name names nth size indexed restNil numbered wellFormed isFile isMalformed place owned files unowned nextOf prevOf linked chain free chained freeSound sound lowest lowestMalformed tallied checkIn newFirst pibLess freshFib datum newPointer slotted pointerStores lastStores topStores grownFib put2If appended gone topGone fibGone topGoneStores lastGoneStores pibMore destroyed trimmed stores createPlan replacePlan grows appendPlan describePlan destroyPlan content relinked freed repaired repairedPib repairPlan createIn appendIn writeIn describeIn destroyIn repairIn imageGood endOf partGood partition showIn shown readFrom
+unfolding view zeroed small taken torn both every all count tabFrom those occ lastOf headOf tests.above tests.below onDrive placeNumber guess blocks pda pdaBlock lda ldaBlock fileId fileIdBlock fileIds lbnToPda lbnToLda ldaToLbn pdaToLbn lbnToFileId after put put2 blank withData withText words seek down keyOf number up slot child first low span isLda address inside within candidate len spotIn presentIn spot present entry least size tally named indexed gapless wellFormed isFile isMalformed key owned files unowned above below link linked chain free chained freeSound sound lowest lowestMalformed tallied checkIn newFirst pibLess freshFib gone topGone fibGone topGoneStores lastGoneStores pibMore destroyed trimmed shaped stores freeAt takenStores createPlan describePlan destroyPlan content relinked freed repaired repairedPib repairPlan put2If over counted inner needs isNew fresh len′ present′ spot′ above′ below′ least′ size′ link′ early empty base entered ended body grown planOf writePlan replacePlan createIn appendIn writeIn describeIn destroyIn repairIn imageGood endOf partGood partition showIn shown readFrom
 given =
     let v₀ = after (repairIn seven zeroed .list) zeroed in
     let v₁ = after (createIn seven v₀ 5 .list) v₀ in
@@ -79,7 +81,7 @@ numbers =
     ∷ []
 
 pub each-given : given ≡ numbers
-unfolding sameRow sameTable view given numbers block zeroed small taken torn both every all count tabFrom those occ lastOf headOf above below onDrive placeNumber guess blocks pda pdaBlock lda ldaBlock fileId fileIdBlock fileIds lbnToPda lbnToLda ldaToLbn pdaToLbn lbnToFileId after put put2 blank withData withText words inside within ptrsFor placeOf candidate len ptrs indirect ptr entry name names nth size indexed restNil numbered wellFormed isFile isMalformed place owned files unowned nextOf prevOf linked chain free chained freeSound sound lowest lowestMalformed tallied checkIn newFirst pibLess freshFib datum newPointer slotted pointerStores lastStores topStores grownFib put2If appended gone topGone fibGone topGoneStores lastGoneStores pibMore destroyed trimmed stores createPlan replacePlan grows appendPlan describePlan destroyPlan content relinked freed repaired repairedPib repairPlan createIn appendIn writeIn describeIn destroyIn repairIn imageGood endOf partGood partition showIn shown readFrom
+unfolding sameRow sameTable view given numbers block zeroed small taken torn both every all count tabFrom those occ lastOf headOf tests.above tests.below onDrive placeNumber guess blocks pda pdaBlock lda ldaBlock fileId fileIdBlock fileIds lbnToPda lbnToLda ldaToLbn pdaToLbn lbnToFileId after put put2 blank withData withText words seek down keyOf number up slot child first low span isLda address inside within candidate len spotIn presentIn spot present entry least size tally named indexed gapless wellFormed isFile isMalformed key owned files unowned above below link linked chain free chained freeSound sound lowest lowestMalformed tallied checkIn newFirst pibLess freshFib gone topGone fibGone topGoneStores lastGoneStores pibMore destroyed trimmed shaped stores freeAt takenStores createPlan describePlan destroyPlan content relinked freed repaired repairedPib repairPlan put2If over counted inner needs isNew fresh len′ present′ spot′ above′ below′ least′ size′ link′ early empty base entered ended body grown planOf writePlan replacePlan createIn appendIn writeIn describeIn destroyIn repairIn imageGood endOf partGood partition showIn shown readFrom
 each-given = same-table given numbers refl
 
 -- ---- details of reading, allocation, destroy and repair, word by word
@@ -91,7 +93,7 @@ header v b =
     block (pair v b serialAt) ∷ v b relativeAt ∷ v b fillerAt ∷ block (pair v b nextAt) ∷ block (pair v b previousAt) ∷ []
 
 pub seen : List (List ℕ)
-unfolding view zeroed small taken torn header both every all count tabFrom those occ lastOf headOf above below onDrive placeNumber guess blocks pda pdaBlock lda ldaBlock fileId fileIdBlock fileIds lbnToPda lbnToLda ldaToLbn pdaToLbn lbnToFileId after put put2 blank withData withText words inside within ptrsFor placeOf candidate len ptrs indirect ptr entry name names nth size indexed restNil numbered wellFormed isFile isMalformed place owned files unowned nextOf prevOf linked chain free chained freeSound sound lowest lowestMalformed tallied checkIn newFirst pibLess freshFib datum newPointer slotted pointerStores lastStores topStores grownFib put2If appended gone topGone fibGone topGoneStores lastGoneStores pibMore destroyed trimmed stores createPlan replacePlan grows appendPlan describePlan destroyPlan content relinked freed repaired repairedPib repairPlan createIn appendIn writeIn describeIn destroyIn repairIn imageGood endOf partGood partition showIn shown readFrom
+unfolding view zeroed small taken torn header both every all count tabFrom those occ lastOf headOf tests.above tests.below onDrive placeNumber guess blocks pda pdaBlock lda ldaBlock fileId fileIdBlock fileIds lbnToPda lbnToLda ldaToLbn pdaToLbn lbnToFileId after put put2 blank withData withText words seek down keyOf number up slot child first low span isLda address inside within candidate len spotIn presentIn spot present entry least size tally named indexed gapless wellFormed isFile isMalformed key owned files unowned above below link linked chain free chained freeSound sound lowest lowestMalformed tallied checkIn newFirst pibLess freshFib gone topGone fibGone topGoneStores lastGoneStores pibMore destroyed trimmed shaped stores freeAt takenStores createPlan describePlan destroyPlan content relinked freed repaired repairedPib repairPlan put2If over counted inner needs isNew fresh len′ present′ spot′ above′ below′ least′ size′ link′ early empty base entered ended body grown planOf writePlan replacePlan createIn appendIn writeIn describeIn destroyIn repairIn imageGood endOf partGood partition showIn shown readFrom
 seen =
     let v₀ = after (repairIn seven zeroed .list) zeroed in
     let v₁ = after (createIn seven v₀ 5 .list) v₀ in
@@ -136,5 +138,5 @@ meant =
     ∷ []
 
 pub as-meant : seen ≡ meant
-unfolding sameRow sameTable view seen meant block zeroed small taken torn header both every all count tabFrom those occ lastOf headOf above below onDrive placeNumber guess blocks pda pdaBlock lda ldaBlock fileId fileIdBlock fileIds lbnToPda lbnToLda ldaToLbn pdaToLbn lbnToFileId after put put2 blank withData withText words inside within ptrsFor placeOf candidate len ptrs indirect ptr entry name names nth size indexed restNil numbered wellFormed isFile isMalformed place owned files unowned nextOf prevOf linked chain free chained freeSound sound lowest lowestMalformed tallied checkIn newFirst pibLess freshFib datum newPointer slotted pointerStores lastStores topStores grownFib put2If appended gone topGone fibGone topGoneStores lastGoneStores pibMore destroyed trimmed stores createPlan replacePlan grows appendPlan describePlan destroyPlan content relinked freed repaired repairedPib repairPlan createIn appendIn writeIn describeIn destroyIn repairIn imageGood endOf partGood partition showIn shown readFrom
+unfolding sameRow sameTable view seen meant block zeroed small taken torn header both every all count tabFrom those occ lastOf headOf tests.above tests.below onDrive placeNumber guess blocks pda pdaBlock lda ldaBlock fileId fileIdBlock fileIds lbnToPda lbnToLda ldaToLbn pdaToLbn lbnToFileId after put put2 blank withData withText words seek down keyOf number up slot child first low span isLda address inside within candidate len spotIn presentIn spot present entry least size tally named indexed gapless wellFormed isFile isMalformed key owned files unowned above below link linked chain free chained freeSound sound lowest lowestMalformed tallied checkIn newFirst pibLess freshFib gone topGone fibGone topGoneStores lastGoneStores pibMore destroyed trimmed shaped stores freeAt takenStores createPlan describePlan destroyPlan content relinked freed repaired repairedPib repairPlan put2If over counted inner needs isNew fresh len′ present′ spot′ above′ below′ least′ size′ link′ early empty base entered ended body grown planOf writePlan replacePlan createIn appendIn writeIn describeIn destroyIn repairIn imageGood endOf partGood partition showIn shown readFrom
 as-meant = same-table seen meant refl

@@ -1,64 +1,34 @@
--- What the definitions say to code that reads: where an entry stands, and that what passed its test lies in the partition.
-use mathlib.Core.Path.{_≡_, refl, sym, ap, ap₂, _∙_, subst}
-use mathlib.Core.Logic.{_⊎_, inl, inr}
-use mathlib.Core.List.{List, [], _∷_}
-use mathlib.Core.Bool.{Bool, true, false, not, _&&_, _||_, true≢false}
-use Prim.Native.Nat.{ℕ, zero, suc, _+_, _-_, _*_, _/_, _%_, _≤_, _<_}
+-- What the definitions say to code: that what passed its test lies in the partition, and which address is written over an old one.
+use mathlib.Core.Path.{_≡_, refl}
+use mathlib.Core.List.{List}
+use mathlib.Core.Bool.{Bool, true, false}
+use Prim.Native.Nat.{ℕ, _+_, _-_, _*_, _/_, _≤_, _<_}
 use native.Mathlib.Omega.{arith}
-use lib.Dec.{leb, ltb, eqb}
 use lib.ListN.{length}
-use lib.Arith.{digits-div, digits-mod}
-use borrow.Author.Tests.{ltb-true, ltb-false, leb-true, eqb-true, eqb-false, lt-ltb, le-ltb, eq-eqb, ne-eqb}
-use Rattle.base.specs.Tests.{pick, both, every, all}
-use Rattle.drive.specs.Address.{pda, lda, ldaBlock, blocks}
-use Rattle.image.specs.View.{View, pair}
+use lib.Dec.{eqb}
+use borrow.Author.Tests.{ltb-true, leb-true, eqb-true}
+use Rattle.base.specs.Tests.{pick}
+use Rattle.drive.specs.Address.{blocks, lda}
+use Rattle.image.specs.View.{View}
 use Rattle.image.specs.Image.{view}
-use Rattle.base.specs.Laws.{every-at, both-left, both-right, all-at}
-use Rattle.volume.specs.Files.{Partition, ptrIndex, ptrSlot, inside, candidate, len, ptrsFor, ptrs, indirect, ptr, entry, name, names, nth, wellFormed, isFile}
-use Rattle.volume.specs.Owned.{nth-data, nth-fib, nth-ptr}
+use Rattle.base.specs.Laws.{every-at, both-left, both-right}
+use Rattle.volume.specs.Files.{Partition, isLda, address, inside, candidate}
 use Rattle.drive.specs.Laws.{blocks-few}
-use Rattle.volume.specs.Words.{directAt, slotAt}
 use Rattle.volume.specs.Answers.{imageGood, partGood, endOf, partition}
-use Rattle.volume.specs.declared.Part.{Part}
-use Rattle.volume.specs.declared.Part.the-variants.{Good, Refused}
+use Rattle.volume.specs.declared.Part.the-variants.{Good}
 
 pub inside-of : (π : Partition) (b : ℕ) → inside π b ≡ true → (π .s < b) × (b ≤ π .e)
 unfolding inside
 inside-of π b h = (ltb-true (π .s) b (both-left _ _ h), leb-true b (π .e) (both-right _ _ h))
 
-module _ (π : Partition) (v : View) (f : ℕ) where
-  pub names-in : (x rel : ℕ) → names π v f x rel ≡ true → (ldaBlock (π .drive)) x ≤ (π .e)
-  unfolding names
-  names-in x rel h = inside-of π ((ldaBlock (π .drive)) x) (every-at _ h 1) .1
-
-  pub entry-direct : (r : ℕ) → r < 64 → entry π v f r ≡ pair v f (directAt r)
-  unfolding entry
-  entry-direct r h = rw (lt-ltb r 64 h, entry)
-
-  pub entry-far : (r : ℕ) → 64 ≤ r → entry π v f r ≡ pair v (ptr π v f ((r - 64) / 128)) (slotAt ((r - 64) % 128))
-  unfolding entry
-  entry-far r h = rw (le-ltb r 64 h, entry)
-
-  pub entry-at : (i j : ℕ) → j < 128 → entry π v f (64 + 128 * i + j) ≡ pair v (ptr π v f i) (slotAt j)
-  entry-at i j h =
-      entry-far (64 + 128 * i + j) (omega arith)
-      ∙ ap₂ (λ (a b : ℕ). pair v (ptr π v f a) (slotAt b))
-      (ap (λ (x : ℕ). x / 128) form ∙ digits-div i h) (ap (λ (x : ℕ). x % 128) form ∙ digits-mod i h)
-    where
-      form : 64 + 128 * i + j - 64 ≡ i * 128 + j
-      form = omega arith
-
-  pub nth-last : (p k : ℕ) → p ≡ ptrs π v f → k ≡ 0 → f ≡ nth π v f (p + k)
-  nth-last p k h z = sym (ap (λ (x : ℕ). nth π v f x) (let q : p + k ≡ ptrs π v f = omega arith in q) ∙ nth-fib π v f)
-
-  pub nth-name : (p k r : ℕ) → p ≡ ptrs π v f → k ≡ suc r → name π v f r ≡ nth π v f (p + k)
-  nth-name p k r h z = sym (ap (λ (x : ℕ). nth π v f x) (let q : p + k ≡ ptrs π v f + suc r = omega arith in q) ∙ nth-data π v f r)
-
-  pub nth-top : (p : ℕ) → p ≡ ptrs π v f → p ≡ 0 → f ≡ nth π v f 0
-  nth-top p h z = sym (ap (λ (x : ℕ). nth π v f x) (let q : 0 ≡ ptrs π v f = omega arith in q) ∙ nth-fib π v f)
-
-  pub nth-first : (p q : ℕ) → p ≡ ptrs π v f → p ≡ suc q → ptr π v f q ≡ nth π v f 0
-  nth-first p q h z = sym (ap (λ (x : ℕ). nth π v f x) (let j : 0 ≡ ptrs π v f - suc q = omega arith in j) ∙ nth-ptr π v f q (omega arith))
+-- an address that names b already is b's LDA, so that the one written over any other is too
+pub address-lda : (d old b : ℕ) → address d old b ≡ lda d b
+unfolding address isLda
+address-lda d old b = go (eqb old (lda d b)) refl
+  where
+    go : (t : Bool) → eqb old (lda d b) ≡ t → pick t old (lda d b) ≡ lda d b
+    go true q = eqb-true old (lda d b) q
+    go false q = refl
 
 -- what a good partition gives the code that goes on with it
 pub record Lies (d : ℕ) (l : List ℕ) (s e : ℕ) : Type 0 where

@@ -1,14 +1,14 @@
 -- M1 to M12 of document 01, proved of the definitions by computation as one table: `table` is what the definitions give, `paper` what
 -- document 01 prints, and `worked` says that they are equal.
 use mathlib.Core.Path.{_≡_, refl}
-use mathlib.Core.Bool.{Bool, true, false, not, _&&_}
 use mathlib.Core.List.{List, [], _∷_, _++_}
-use Prim.Native.Nat.{ℕ, zero, suc, _+_, _-_, _*_, _/_, _%_}
-use lib.Dec.{leb, ltb, eqb}
+use Prim.Native.Nat.{ℕ, _+_, _-_, _/_, _%_}
+use lib.Dec.{eqb}
 use lib.ListN.{take}
-use Rattle.base.specs.Tests.{pick, both, every, tabFrom, headOf, lastOf, those, above, below, all, count, occ, sameRow, sameTable}
+use Rattle.base.specs.Tests.{pick, both, every, tabFrom, headOf, lastOf, those, all, count, occ, sameRow, sameTable}
+use Rattle.base.specs.Tests as tests
 use Rattle.base.specs.Laws.{same-table}
-use Rattle.base.specs.Refusals.{number}
+use Rattle.base.specs.Refusals as refusals
 use Rattle.drive.specs.Code.{placeNumber, guess}
 use Rattle.drive.specs.Rows.{onDrive}
 use Rattle.drive.specs.Address.{blocks, pda, pdaBlock, lda, ldaBlock, fileId, fileIdBlock, fileIds}
@@ -18,9 +18,12 @@ use Rattle.drive.specs.declared.Converted.the-variants as convert
 use Rattle.image.specs.View.{View, Rec, after, places, put, put2, blank}
 use Rattle.image.specs.Saves.{withData, withText, words}
 use Rattle.volume.specs.Words.{partitionStartAt, partitionEndAt}
-use Rattle.volume.specs.Files.{Partition, partitionOf, inside, within, ptrIndex, ptrSlot, ptrsFor, placeOf, candidate, len, ptrs, indirect, ptr, entry, name, names, nth, size, indexed, restNil, numbered, wellFormed, isFile, isMalformed, place, owned, files, unowned, nextOf, prevOf, linked, chain, free, chained, freeSound, sound}
+use Rattle.volume.specs.Search.{seek, down}
+use Rattle.volume.specs.Keys.{keyOf, number, up, slot, child, first, low, span}
+use Rattle.volume.specs.Files.{Partition, partitionOf, isLda, address, inside, within, candidate, len, spotIn, presentIn, spot, present, entry, least, size, tally, named, indexed, gapless, wellFormed, isFile, isMalformed, key, owned, files, unowned, above, below, link, linked, chain, free, chained, freeSound, sound}
 use Rattle.volume.specs.Answers.{lowest, lowestMalformed, tallied, checkIn}
-use Rattle.volume.specs.Plans.{newFirst, pibLess, freshFib, datum, newPointer, slotted, pointerStores, lastStores, topStores, grownFib, put2If, appended, gone, topGone, fibGone, topGoneStores, lastGoneStores, pibMore, destroyed, trimmed, stores, createPlan, replacePlan, grows, appendPlan, describePlan, destroyPlan, content, relinked, freed, repaired, repairedPib, repairPlan}
+use Rattle.volume.specs.Plans.{newFirst, pibLess, freshFib, gone, topGone, fibGone, topGoneStores, lastGoneStores, pibMore, destroyed, trimmed, shaped, stores, freeAt, takenStores, createPlan, describePlan, destroyPlan, content, relinked, freed, repaired, repairedPib, repairPlan}
+use Rattle.volume.specs.Writes.{put2If, over, counted, inner, needs, isNew, fresh, len′, present′, spot′, above′, below′, least′, size′, link′, early, empty, base, entered, ended, body, grown, planOf, writePlan, replacePlan}
 use Rattle.volume.specs.Calls.{Planned, createIn, appendIn, writeIn, describeIn, destroyIn, repairIn}
 use Rattle.volume.specs.declared.Outcome.{Outcome}
 use Rattle.volume.specs.declared.Outcome.the-variants.{Done, Absent, Refused}
@@ -28,21 +31,25 @@ use Rattle.volume.specs.declared.Outcome.the-variants.{Done, Absent, Ref
 -- a conversion's answer: the two words, or the number of its refusal
 abbrev pub twoWords : Converted → List ℕ
 twoWords (convert.Number x) = x % 65536 ∷ x / 65536 ∷ []
-twoWords (convert.Refused y) = number y ∷ []
+twoWords (convert.Refused y) = refusals.number y ∷ []
 
 abbrev pub oneNumber : Converted → List ℕ
 oneNumber (convert.Number x) = x ∷ []
-oneNumber (convert.Refused y) = number y ∷ []
+oneNumber (convert.Refused y) = refusals.number y ∷ []
 
 -- what a call came to: 0 and its values, or 2 and the number of its refusal
 abbrev pub outcomeOf : Outcome → List ℕ
 outcomeOf (Done a b c) = 0 ∷ a ∷ b ∷ c ∷ []
 outcomeOf Absent = 1 ∷ []
-outcomeOf (Refused y) = 2 ∷ number y ∷ []
+outcomeOf (Refused y) = 2 ∷ refusals.number y ∷ []
 
 -- the answer of a changing call, then the blocks that it stores in order, then the place of the deciding one
-abbrev pub planOf : Planned → List ℕ
-planOf p = outcomeOf (p .outcome) ++ (places (p .list) ++ (p .deciding ∷ []))
+abbrev pub rowOf : Planned → List ℕ
+rowOf p = outcomeOf (p .outcome) ++ (places (p .list) ++ p .deciding)
+
+-- the pointer block that names block r, as 4 for -4, and the entry's place in it
+abbrev pub pointerOf : ℕ → List ℕ
+pointerOf r = (292 - up (292 + r)) ∷ ((slot (292 + r) - 8) / 2) ∷ []
 
 -- drive 0, partition 1..7
 abbrev pub seven : Partition
@@ -61,7 +68,7 @@ pub mended : View → List ℕ
 mended v = let v′ = after (repairIn seven v .list) v in outcomeOf (checkIn seven v′) ++ (len seven v′ 2 ∷ free seven v′)
 
 pub table : List (List ℕ)
-unfolding zeroed mended both every all count tabFrom those occ lastOf headOf above below onDrive placeNumber guess blocks pda pdaBlock lda ldaBlock fileId fileIdBlock fileIds lbnToPda lbnToLda ldaToLbn pdaToLbn lbnToFileId after put put2 blank withData withText words inside within ptrsFor placeOf candidate len ptrs indirect ptr entry name names nth size indexed restNil numbered wellFormed isFile isMalformed place owned files unowned nextOf prevOf linked chain free chained freeSound sound lowest lowestMalformed tallied checkIn newFirst pibLess freshFib datum newPointer slotted pointerStores lastStores topStores grownFib put2If appended gone topGone fibGone topGoneStores lastGoneStores pibMore destroyed trimmed stores createPlan replacePlan grows appendPlan describePlan destroyPlan content relinked freed repaired repairedPib repairPlan createIn appendIn writeIn describeIn destroyIn repairIn
+unfolding zeroed mended both every all count tabFrom those occ lastOf headOf tests.above tests.below onDrive placeNumber guess blocks pda pdaBlock lda ldaBlock fileId fileIdBlock fileIds lbnToPda lbnToLda ldaToLbn pdaToLbn lbnToFileId after put put2 blank withData withText words seek down keyOf number up slot child first low span isLda address inside within candidate len spotIn presentIn spot present entry least size tally named indexed gapless wellFormed isFile isMalformed key owned files unowned above below link linked chain free chained freeSound sound lowest lowestMalformed tallied checkIn newFirst pibLess freshFib gone topGone fibGone topGoneStores lastGoneStores pibMore destroyed trimmed shaped stores freeAt takenStores createPlan describePlan destroyPlan content relinked freed repaired repairedPib repairPlan put2If over counted inner needs isNew fresh len′ present′ spot′ above′ below′ least′ size′ link′ early empty base entered ended body grown planOf writePlan replacePlan createIn appendIn writeIn describeIn destroyIn repairIn
 table =
     let v₀ = after (repairIn seven zeroed .list) zeroed in
     let c = createIn seven v₀ 5 in
@@ -80,13 +87,13 @@ table =
     ∷ twoWords (lbnToPda 3 431)
     ∷ oneNumber (lbnToFileId 3 431)
     ∷ oneNumber (lbnToFileId 2 57344)
-    ∷ ((4 + ptrIndex 191) ∷ ptrSlot 191 ∷ [])
-    ∷ ((4 + ptrIndex 192) ∷ ptrSlot 192 ∷ [])
-    ∷ ((4 + ptrIndex 4159) ∷ ptrSlot 4159 ∷ [])
+    ∷ pointerOf 191
+    ∷ pointerOf 192
+    ∷ pointerOf 4159
     ∷ free seven v₀
-    ∷ planOf c
-    ∷ planOf w₀
-    ∷ planOf w₁
+    ∷ rowOf c
+    ∷ rowOf w₀
+    ∷ rowOf w₁
     ∷ free seven v₃
     ∷ mended v₂
     ∷ mended (after (take 1 (w₁ .list)) v₂)
@@ -94,7 +101,7 @@ table =
     ∷ mended (after (take 3 (w₁ .list)) v₂)
     ∷ mended (after (take 4 (w₁ .list)) v₂)
     ∷ mended (after (take 5 (w₁ .list)) v₂)
-    ∷ planOf z
+    ∷ rowOf z
     ∷ free seven v₄
     ∷ outcomeOf (checkIn seven v₀)
     ∷ outcomeOf (checkIn seven v₁)
@@ -143,5 +150,5 @@ paper =
     ∷ []
 
 pub worked : table ≡ paper
-unfolding sameRow sameTable table paper block zeroed mended both every all count tabFrom those occ lastOf headOf above below onDrive placeNumber guess blocks pda pdaBlock lda ldaBlock fileId fileIdBlock fileIds lbnToPda lbnToLda ldaToLbn pdaToLbn lbnToFileId after put put2 blank withData withText words inside within ptrsFor placeOf candidate len ptrs indirect ptr entry name names nth size indexed restNil numbered wellFormed isFile isMalformed place owned files unowned nextOf prevOf linked chain free chained freeSound sound lowest lowestMalformed tallied checkIn newFirst pibLess freshFib datum newPointer slotted pointerStores lastStores topStores grownFib put2If appended gone topGone fibGone topGoneStores lastGoneStores pibMore destroyed trimmed stores createPlan replacePlan grows appendPlan describePlan destroyPlan content relinked freed repaired repairedPib repairPlan createIn appendIn writeIn describeIn destroyIn repairIn
+unfolding sameRow sameTable table paper block zeroed mended both every all count tabFrom those occ lastOf headOf tests.above tests.below onDrive placeNumber guess blocks pda pdaBlock lda ldaBlock fileId fileIdBlock fileIds lbnToPda lbnToLda ldaToLbn pdaToLbn lbnToFileId after put put2 blank withData withText words seek down keyOf number up slot child first low span isLda address inside within candidate len spotIn presentIn spot present entry least size tally named indexed gapless wellFormed isFile isMalformed key owned files unowned above below link linked chain free chained freeSound sound lowest lowestMalformed tallied checkIn newFirst pibLess freshFib gone topGone fibGone topGoneStores lastGoneStores pibMore destroyed trimmed shaped stores freeAt takenStores createPlan describePlan destroyPlan content relinked freed repaired repairedPib repairPlan put2If over counted inner needs isNew fresh len′ present′ spot′ above′ below′ least′ size′ link′ early empty base entered ended body grown planOf writePlan replacePlan createIn appendIn writeIn describeIn destroyIn repairIn
 worked = same-table table paper refl

@@ -1,25 +1,17 @@
-use Rattle.volume.specs.Plans.{datum}
-use Rattle.records.proofs.Laws.{stands}
+use Rattle.append.specs.Growing.{dataStore}
+use Rattle.append.proofs.Laws.{data-there}
 use borrow.Author.Needs.{needs}
 use Rattle.append.proofs.data_save.Statement.{statement}
 use Rattle.append.proofs.data_save.Tie as tie
 
+key-save-requires : tie.Need-key-save-requires
+key-save-requires c κs = (c .before .before .before .before .pre .0, data-there (c .before .before .before .before .pre .0))
+
 returns : tie.Need-returns
-unfolding datum
-returns c = stands (rw (c .saved .ensures .0, c .before .with-data .ensures, c .before .before .with-pair2 .ensures, c .before .before .before .pda-of2 .ensures .0, c .before .before .before .before .with-word2 .ensures, c .before .before .before .before .before .with-word .ensures, c .before .before .before .before .before .before .word .ensures .0, c .before .before .before .before .before .before .before .with-pair .ensures, c .before .before .before .before .before .before .before .before .pda-of .ensures .0, c .before .before .before .before .before .before .before .before .before .blank .ensures)) (c .saved .ensures .1) (c .before .before .before .before .before .before .before .before .before .before .before .before .pre .1)
+unfolding dataStore
+returns c = rw (c .before .with-data .ensures, c .before .before .stamp .ensures) at (c .key-save .ensures)
 
 pub data-save-spec : {M : Type 1} → statement M
 data-save-spec =
     tie.close
-    (tie.spec
-    (λ c κs. search needs)
-    (λ c κs. search needs)
-    (λ c κs. search needs)
-    (λ c κs. search needs)
-    (λ c κs. search needs)
-    (λ c κs. search needs)
-    (λ c κs. search needs)
-    (λ c κs. search needs)
-    (λ c κs. search needs)
-    (λ c κs. search needs)
-    returns)
+    (tie.spec (λ c. search needs) (λ c κs. search needs) (λ c κs. search needs) (λ c. search needs) key-save-requires returns)

@@ -1,4 +1,4 @@
-use Rattle.volume.specs.Plans.{put2If}
+use Rattle.volume.specs.Writes.{put2If}
 use Rattle.append.proofs.pair_if.Statement.{statement}
 use Rattle.append.proofs.pair_if.Tie as tie
 

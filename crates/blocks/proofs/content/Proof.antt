@@ -1,18 +1,18 @@
 use mathlib.Core.Path.{ap, _∙_}
 use borrow.Author.Needs.{needs}
 use Rattle.volume.specs.Plans.{trimmed}
-use Rattle.blocks.specs.Records.{content-top, content-later, content-direct}
+use Rattle.blocks.specs.Records.{pointer-key, shaped-pointer, shaped-other}
 use Rattle.blocks.proofs.content.Statement.{statement}
 use Rattle.blocks.proofs.content.Tie as tie
 
+trimmed-requires : tie.Need-trimmed-requires
+trimmed-requires c κs = let h = c .before .before .before .pre in (h .1, pointer-key _ _ (h .1) (h .2) (c .if1 .taken))
+
 returns : tie.Need-returns
-returns c = c .before .«record» .ensures ∙ content-later _ _ _ _ (c .if1 .taken)
+returns c = c .trimmed .ensures ∙ ap (trimmed _ _) (c .before .before .«record» .ensures) ∙ shaped-pointer _ _ _ (c .before .if1 .taken)
 
 returns-2 : tie.Need-returns-2
-returns-2 c = c .before .before .«record» .ensures ∙ content-direct _ _ _ _ (c .if2 .taken)
-
-returns-3 : tie.Need-returns-3
-returns-3 c = c .trimmed .ensures ∙ ap (trimmed _) (c .before .before .before .«record» .ensures) ∙ content-top _ _ _ _ (c .before .before .if1 .left) (c .before .if2 .left)
+returns-2 c = c .before .«record» .ensures ∙ shaped-other _ _ _ (c .if1 .left)
 
 pub content-spec : {M : Type 1} → statement M
-content-spec = tie.close (tie.spec (λ c κs. search needs) returns returns-2 (λ c κs. search needs) returns-3)
+content-spec = tie.close (tie.spec (λ c κs. search needs) trimmed-requires returns returns-2)

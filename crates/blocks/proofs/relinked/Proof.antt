@@ -1,26 +1,28 @@
 use native.Mathlib.Omega.{arith}
 use denote.Ref.{now}
 use borrow.Author.Needs.{needs}
-use Rattle.blocks.specs.Relink.{Filed, filed, file-in, ptrs-few}
+use Rattle.blocks.specs.Relink.{Filed, filed, file-in}
 use Rattle.volume.specs.Files.{partitionOf}
 use Rattle.blocks.proofs.relinked.Statement.{statement}
 use Rattle.blocks.proofs.relinked.Tie as tie
 
 -- what the code has read of the block and its file
-read : (c : tie.After-place-in) → (let a = c .before .before .before .before .before .before .args in Filed (partitionOf (a .drive) (a .s) (a .e)) (now (a .img)) (a .b) (c .before .before .before .pda-block .result) (c .before .ptrs-for .result) (c .before .before .len .result) (c .place-in .result))
-read c = let h = c .before .before .before .before .before .before .pre in filed _ (h .0) (h .2) (c .before .before .before .before .pair .ensures .0) (c .before .before .before .pda-block .ensures .0) (c .before .before .len .ensures .0) (c .before .ptrs-for .ensures) _ (c .place-in .ensures .0)
+read : (c : tie.After-len) → (let a = c .before .before .before .before .before .args in Filed (partitionOf (a .drive) (a .s) (a .e)) (now (a .img)) (a .b) (c .before .before .pda-block .result) (c .len .result) (c .before .key-in .result))
+read c = let h = c .before .before .before .before .before .pre in filed _ (h .0) (h .2) (c .before .before .before .pair .ensures .0) (c .before .before .pda-block .ensures .0) (c .len .ensures .0) (c .before .key-in .ensures .0)
 
 len-requires : tie.Need-len-requires
-len-requires c κs = omega (arith, file-in _ (c .before .before .before .pre .0) (c .before .before .before .pre .2) (c .before .pair .ensures .0) (c .pda-block .ensures .0), c .before .before .before .pre .0 .lies .within)
-
-place-in-requires : tie.Need-place-in-requires
-place-in-requires c κs = (omega arith, ptrs-few _ (c .before .before .before .before .before .pre .0) (c .before .before .before .before .before .pre .2) (c .before .before .before .pair .ensures .0) (c .before .before .pda-block .ensures .0) (c .before .len .ensures .0) (c .ptrs-for .ensures))
+len-requires c κs =
+    let h = c .before .before .before .before .pre in
+    omega (arith, file-in _ (h .0) (h .2) (c .before .before .pair .ensures .0) (c .before .pda-block .ensures .0), h .0 .lies .within)
 
 next-of-requires : tie.Need-next-of-requires
-next-of-requires c κs = let h = read c in (h .opened, h .here)
+next-of-requires c κs = let h = read c in (h .opened, c .len .ensures .0, h .here)
 
 prev-of-requires : tie.Need-prev-of-requires
-prev-of-requires c κs = let h = read (c .before) in (h .opened, h .here)
+prev-of-requires c κs = let h = read (c .before) in (h .opened, c .before .len .ensures .0, h .here)
+
+content-requires : tie.Need-content-requires
+content-requires c κs = let h = read (c .before .before) in (omega (arith, c .before .before .before .before .before .before .before .pre .0 .lies .within), h .short, h .has)
 
 with-pair-requires : tie.Need-with-pair-requires
 with-pair-requires c κs = (omega arith, rw (c .before .prev-of .ensures) (read (c .before .before .before) .previous))
@@ -37,12 +39,11 @@ relinked-spec =
     (tie.spec
     (λ c κs. search needs)
     (λ c κs. search needs)
-    len-requires
     (λ c κs. search needs)
-    place-in-requires
+    len-requires
     next-of-requires
     prev-of-requires
-    (λ c κs. search needs)
+    content-requires
     with-pair-requires
     with-pair-requires-2
     returns)

@@ -1,5 +1,4 @@
 use mathlib.Core.Path.{sym}
-use borrow.Author.Tests.{lt-ltb, le-ltb}
 use Rattle.volume.specs.Plans.{topGoneStores}
 use Rattle.records.proofs.Laws.{stands, stands-none}
 use borrow.Author.Needs.{needs}
@@ -8,11 +7,11 @@ use Rattle.erase.proofs.top_save.Tie as tie
 
 returns : tie.Need-returns
 unfolding topGoneStores
-returns c = stands-none (c .none .ensures .0) (c .none .ensures .1) (c .before .before .before .pre .0) (sym (rw (topGoneStores, lt-ltb _ _ (c .before .if1 .taken))))
+returns c = stands-none (c .none .ensures .0) (c .none .ensures .1) (c .before .before .before .pre .0) (sym (rw (topGoneStores, c .before .if1 .taken)))
 
 returns-2 : tie.Need-returns-2
 unfolding topGoneStores
-returns-2 c = stands (rw (topGoneStores, le-ltb _ _ (c .before .before .if1 .left), c .saved .ensures .0, c .before .top-gone .ensures)) (c .saved .ensures .1) (c .before .before .before .before .pre .0)
+returns-2 c = stands (rw (topGoneStores, c .before .before .if1 .left, c .saved .ensures .0, c .before .top-gone .ensures)) (c .saved .ensures .1) (c .before .before .before .before .pre .0)
 
 pub top-save-spec : {M : Type 1} → statement M
 top-save-spec =

@@ -8,16 +8,16 @@ use Rattle.extract.proofs.copy_blocks.Statement.{statement}
 use Rattle.extract.proofs.copy_blocks.Tie as tie
 
 abbrev Inv-loop : tie.InvT-loop
-Inv-loop img drive s e f p k buf₀ r₀ buf r = Copied (partitionOf drive s e) img f k buf r
+Inv-loop img drive s e f k buf₀ r₀ buf r = Copied (partitionOf drive s e) img f k buf r
 
 abbrev μ-loop : tie.MeasureT-loop
-μ-loop img drive s e f p k buf₀ r₀ buf r = k - r
+μ-loop img drive s e f k buf₀ r₀ buf r = k - r
 
 loop-holds : tie.Need-loop-holds Inv-loop μ-loop
-loop-holds c = copied-none _ _ _ _ _ (c .before .before .pre .1)
+loop-holds c = copied-none _ _ _ _ _ (c .before .before .pre .2)
 
 name-requires : tie.Need-name-requires Inv-loop μ-loop
-name-requires c κs = (c .before .before .before .before .pre .0, c .loop-test .taken)
+name-requires c κs = (c .before .before .before .before .pre .0, rw (c .before .before .before .before .pre .1) at (c .loop-test .taken))
 
 mul-from : tie.Need-mul-from Inv-loop μ-loop
 mul-from c = let i = c .before .before .before .before .before .pre .0 .lies .within in omega arith
@@ -41,7 +41,7 @@ loop-again : tie.Need-loop-again Inv-loop μ-loop
 loop-again c = let i = c .before .before .before .before .before .before .before .before .before .before .pre .0 .lies .within in copied-next _ _ _ _ _ _ _ _ (c .before .before .before .before .before .before .before .loop .inv) (c .before .before .before .before .before .before .loop-test .taken) (c .before .before .before .before .before .name .ensures .0) (omega arith) (c .before .before .put-at .ensures)
 
 same-length : tie.Need-same-length Inv-loop μ-loop
-same-length c = c .before .loop .inv .long ∙ sym (c .before .before .before .before .pre .1)
+same-length c = c .before .loop .inv .long ∙ sym (c .before .before .before .before .pre .2)
 
 returns : tie.Need-returns Inv-loop μ-loop
 returns c = copied-all _ _ _ _ _ _ (c .before .loop .inv) (c .loop-test .left)

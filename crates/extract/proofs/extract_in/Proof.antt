@@ -29,11 +29,11 @@ unfolding extractIn
 returns-3 c = let q = sym (c .before .before .before .before .before .candidate .ensures) ∙ not-false _ (c .before .before .before .before .if1 .left) in let w = sym (c .before .before .before .well-formed .ensures) ∙ not-false _ (c .before .before .if2 .left) in let n = ne-eqb _ _ (rw (c .before .len .ensures .0) at (c .if3 .taken)) in (rw (extractIn, q, w, n), rw (extractIn, q, w, n))
 
 copy-blocks-requires : tie.Need-copy-blocks-requires
-copy-blocks-requires c κs = (wf-opened _ _ _ (c .before .before .before .before .before .before .before .before .before .before .pre) (candidate-in _ _ _ (sym (c .before .before .before .before .before .before .before .candidate .ensures) ∙ not-false _ (c .before .before .before .before .before .before .if1 .left)) .1) (c .before .before .before .len .ensures .0) (c .before .ptrs-for .ensures) (sym (c .before .before .before .before .before .well-formed .ensures) ∙ not-false _ (c .before .before .before .before .if2 .left)), c .before .before .if3 .left)
+copy-blocks-requires c κs = (wf-opened _ (c .before .before .before .before .before .before .before .before .before .pre) (candidate-in _ _ _ (sym (c .before .before .before .before .before .before .candidate .ensures) ∙ not-false _ (c .before .before .before .before .before .if1 .left)) .1) (sym (c .before .before .before .before .well-formed .ensures) ∙ not-false _ (c .before .before .before .if2 .left)), c .before .before .len .ensures .0, c .before .if3 .left)
 
 returns-4 : tie.Need-returns-4
 unfolding extractIn
-returns-4 c = let q = sym (c .before .before .before .before .before .before .before .before .before .before .candidate .ensures) ∙ not-false _ (c .before .before .before .before .before .before .before .before .before .if1 .left) in let w = sym (c .before .before .before .before .before .before .before .before .well-formed .ensures) ∙ not-false _ (c .before .before .before .before .before .before .before .if2 .left) in let n = eq-eqb _ _ (rw (c .before .before .before .before .before .before .len .ensures .0) at (c .before .before .before .before .before .if3 .left)) in (rw (extractIn, q, w, n) (ap (λ (x : ℕ). Done x 0 0) (c .before .before .before .before .before .before .len .ensures .0)), rw (extractIn, q, w, n) (rw (c .before .before .before .before .before .before .len .ensures .0) at (c .before .before .copy-blocks .ensures)))
+returns-4 c = let q = sym (c .before .before .before .before .before .before .before .before .before .candidate .ensures) ∙ not-false _ (c .before .before .before .before .before .before .before .before .if1 .left) in let w = sym (c .before .before .before .before .before .before .before .well-formed .ensures) ∙ not-false _ (c .before .before .before .before .before .before .if2 .left) in let n = eq-eqb _ _ (rw (c .before .before .before .before .before .len .ensures .0) at (c .before .before .before .before .if3 .left)) in (rw (extractIn, q, w, n) (ap (λ (x : ℕ). Done x 0 0) (c .before .before .before .before .before .len .ensures .0)), rw (extractIn, q, w, n) (rw (c .before .before .before .before .before .len .ensures .0) at (c .before .before .copy-blocks .ensures)))
 
 pub extract-in-spec : {M : Type 1} → statement M
 extract-in-spec =
@@ -46,7 +46,6 @@ extract-in-spec =
     len-requires
     (λ c. search needs)
     returns-3
-    (λ c κs. search needs)
     copy-blocks-requires
     (λ c. search needs)
     returns-4)

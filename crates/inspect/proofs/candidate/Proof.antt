@@ -1,8 +1,6 @@
 use mathlib.Core.Path.{sym, _∙_}
 use borrow.Author.Tests.{lt-ltb, le-ltb, le-leb, lt-leb, not-true, not-false}
 use Rattle.base.specs.Tests.{both, every}
-use Rattle.drive.specs.Address.{pda}
-use Rattle.image.specs.View.{pair}
 use Rattle.volume.specs.Files.{inside, candidate}
 use Rattle.volume.specs.Steps.{every-no, both-no, both-no-2, and-true}
 use borrow.Author.Needs.{needs}

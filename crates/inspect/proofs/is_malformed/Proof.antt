@@ -1,6 +1,6 @@
 use mathlib.Core.Path.{sym, _∙_}
 use Rattle.base.specs.Tests.{both}
-use Rattle.volume.specs.Files.{candidate, isMalformed}
+use Rattle.volume.specs.Files.{isMalformed}
 use Rattle.volume.specs.Reads.{candidate-in}
 use borrow.Author.Needs.{needs}
 use Rattle.inspect.proofs.is_malformed.Statement.{statement}

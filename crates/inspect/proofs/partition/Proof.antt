@@ -1,7 +1,6 @@
 use mathlib.Core.Path.{sym, _∙_}
 use native.Mathlib.Omega.{arith}
 use borrow.Author.Tests.{not-true, not-false}
-use Rattle.image.specs.View.{pair}
 use Rattle.volume.specs.Answers.{endOf, partition}
 use Rattle.volume.specs.Reads.{image-blocks, part-start}
 use borrow.Author.Needs.{needs}
@@ -27,13 +26,4 @@ unfolding partition
 returns-3 c = rw (sym (c .before .before .before .image-good .ensures) ∙ not-false _ (c .before .before .if1 .left), sym (c .before .part-good .ensures) ∙ c .if2 .left, partition)
 
 pub partition-spec : {M : Type 1} → statement M
-partition-spec =
-    tie.close
-    (tie.spec
-    (λ c κs. search needs)
-    returns
-    part-good-requires
-    pair-requires
-    (λ c κs. search needs)
-    returns-2
-    returns-3)
+partition-spec = tie.close (tie.spec (λ c κs. search needs) returns part-good-requires pair-requires (λ c κs. search needs) returns-2 returns-3)

@@ -1,21 +1,18 @@
-use native.Mathlib.Omega.{arith}
-use Rattle.inspect.proofs.Laws.{opened-few}
-use Rattle.links.proofs.Laws.{next-is, next-end}
-use borrow.Author.Needs.{needs}
+use mathlib.Core.Path.{ap, _∙_}
+use Rattle.volume.specs.Files.{link}
+use Rattle.inspect.proofs.Laws.{opened-above}
+use Rattle.links.proofs.Laws.{len-few, next-is, key-few}
 use Rattle.links.proofs.next_of.Statement.{statement}
 use Rattle.links.proofs.next_of.Tie as tie
 
-add-if1 : tie.Need-add-if1
-add-if1 c = let o = c .before .pre .0 in omega (arith, opened-few o, o .short)
+next-key-requires : tie.Need-next-key-requires
+next-key-requires c κs = let h = c .before .pre in (len-few (h .0) (h .1), key-few (h .0) _ (h .2))
 
-add-nth : tie.Need-add-nth
-add-nth c = let o = c .before .before .pre .0 in omega (arith, opened-few o, o .short)
+link-to-requires : tie.Need-link-to-requires
+link-to-requires c κs = let h = c .before .before .pre in let z = next-is (h .0) (h .1) _ (h .2) (c .next-key .ensures) in (h .0, λ n. rw z (opened-above (h .0) _ (h .2) (λ y. n (z ∙ y))))
 
 returns : tie.Need-returns
-returns c = let o = c .before .before .before .before .pre .0 in next-is o _ _ _ (c .before .before .if1 .taken) (c .before .nth .ensures .0) (c .pda .ensures)
-
-returns-2 : tie.Need-returns-2
-returns-2 c = let o = c .before .before .pre .0 in next-end o _ (c .if1 .left)
+returns c = let h = c .before .before .before .pre in c .link-to .ensures ∙ ap (link _ _ _) (next-is (h .0) (h .1) _ (h .2) (c .before .next-key .ensures))
 
 pub next-of-spec : {M : Type 1} → statement M
-next-of-spec = tie.close (tie.spec add-if1 add-nth (λ c κs. search needs) (λ c κs. search needs) returns returns-2)
+next-of-spec = tie.close (tie.spec next-key-requires link-to-requires returns)

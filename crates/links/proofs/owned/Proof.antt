@@ -2,8 +2,7 @@ use mathlib.Core.Path.{sym, _∙_}
 use native.Mathlib.Omega.{arith}
 use borrow.Author.Tests.{not-true, not-false}
 use Rattle.volume.specs.Reads.{candidate-in}
-use Rattle.inspect.proofs.Laws.{opened-few, opened-ptrs}
-use Rattle.links.proofs.Laws.{opened, owned-not-file, owned-not-serial, owned-far, owned-last, is-file}
+use Rattle.links.proofs.Laws.{opened, is-file, owned-not-file, owned-not-serial, owned-absent, owned-here, len-few, has-is}
 use borrow.Author.Needs.{needs}
 use Rattle.links.proofs.owned.Statement.{statement}
 use Rattle.links.proofs.owned.Tie as tie
@@ -17,20 +16,17 @@ returns-2 c = owned-not-serial _ _ _ _ _ (c .before .before .before .before .bef
 len-requires : tie.Need-len-requires
 len-requires c κs = let i = candidate-in _ _ _ (sym (c .before .before .before .candidate .ensures) ∙ not-false _ (c .before .before .if1 .left)) in omega (arith, i .1, c .before .before .before .before .before .before .before .pre .0 .within)
 
-place-in-requires : tie.Need-place-in-requires
-place-in-requires c κs = let o = opened (c .before .before .before .before .before .before .before .before .before .pre .0) (c .before .before .before .before .before .before .before .before .before .pre .2) _ _ _ (sym (c .before .before .before .before .before .candidate .ensures) ∙ not-false _ (c .before .before .before .before .if1 .left)) (c .before .len .ensures .0) (c .ptrs-for .ensures) in (omega (arith, c .before .before .before .before .before .before .before .before .before .pre .0 .within, c .before .before .before .before .before .before .before .before .before .pre .1), opened-few o)
-
-add-if3 : tie.Need-add-if3
-add-if3 c = let o = opened (c .before .before .before .before .before .before .before .before .before .before .pre .0) (c .before .before .before .before .before .before .before .before .before .before .pre .2) _ _ _ (sym (c .before .before .before .before .before .before .candidate .ensures) ∙ not-false _ (c .before .before .before .before .before .if1 .left)) (c .before .before .len .ensures .0) (c .before .ptrs-for .ensures) in omega (arith, opened-few o, o .short)
+has-key-requires : tie.Need-has-key-requires
+has-key-requires c κs = let o = opened (c .before .before .before .before .before .before .before .before .before .pre .0) (c .before .before .before .before .before .before .before .before .before .pre .2) _ (sym (c .before .before .before .before .before .candidate .ensures) ∙ not-false _ (c .before .before .before .before .if1 .left)) in (len-few o (c .before .len .ensures .0), c .key-in .ensures .1)
 
 returns-3 : tie.Need-returns-3
-returns-3 c = let o = opened (c .before .before .before .before .before .before .before .before .before .before .before .pre .0) (c .before .before .before .before .before .before .before .before .before .before .before .pre .2) _ _ _ (sym (c .before .before .before .before .before .before .before .candidate .ensures) ∙ not-false _ (c .before .before .before .before .before .before .if1 .left)) (c .before .before .before .len .ensures .0) (c .before .before .ptrs-for .ensures) in owned-far _ _ _ _ _ (c .before .before .before .before .before .before .before .before .before .pair .ensures .0) (c .before .before .before .before .before .before .before .before .pda-block .ensures .0) _ _ _ (c .before .before .before .len .ensures .0) (opened-ptrs o) (c .before .place-in .ensures .0) (c .if3 .taken)
+returns-3 c = let o = opened (c .before .before .before .before .before .before .before .before .before .before .before .pre .0) (c .before .before .before .before .before .before .before .before .before .before .before .pre .2) _ (sym (c .before .before .before .before .before .before .before .candidate .ensures) ∙ not-false _ (c .before .before .before .before .before .before .if1 .left)) in owned-absent _ _ _ _ _ (c .before .before .before .before .before .before .before .before .before .pair .ensures .0) (c .before .before .before .before .before .before .before .before .pda-block .ensures .0) _ (c .before .before .key-in .ensures .0) (has-is o (c .before .before .before .len .ensures .0) _ (c .before .has-key .ensures) ∙ not-true _ (c .if3 .taken))
 
-nth-requires : tie.Need-nth-requires
-nth-requires c κs = let o = opened (c .before .before .before .before .before .before .before .before .before .before .before .pre .0) (c .before .before .before .before .before .before .before .before .before .before .before .pre .2) _ _ _ (sym (c .before .before .before .before .before .before .before .candidate .ensures) ∙ not-false _ (c .before .before .before .before .before .before .if1 .left)) (c .before .before .before .len .ensures .0) (c .before .before .ptrs-for .ensures) in (o, omega arith)
+spot-requires : tie.Need-spot-requires
+spot-requires c κs = let o = opened (c .before .before .before .before .before .before .before .before .before .before .before .pre .0) (c .before .before .before .before .before .before .before .before .before .before .before .pre .2) _ (sym (c .before .before .before .before .before .before .before .candidate .ensures) ∙ not-false _ (c .before .before .before .before .before .before .if1 .left)) in (o, has-is o (c .before .before .before .len .ensures .0) _ (c .before .has-key .ensures) ∙ not-false _ (c .if3 .left))
 
 returns-4 : tie.Need-returns-4
-returns-4 c = let o = opened (c .before .before .before .before .before .before .before .before .before .before .before .before .pre .0) (c .before .before .before .before .before .before .before .before .before .before .before .before .pre .2) _ _ _ (sym (c .before .before .before .before .before .before .before .before .candidate .ensures) ∙ not-false _ (c .before .before .before .before .before .before .before .if1 .left)) (c .before .before .before .before .len .ensures .0) (c .before .before .before .ptrs-for .ensures) in owned-last _ _ _ _ _ (c .before .before .before .before .before .before .before .before .before .before .pair .ensures .0) (c .before .before .before .before .before .before .before .before .before .pda-block .ensures .0) _ _ _ (c .before .before .before .before .len .ensures .0) (opened-ptrs o) (c .before .before .place-in .ensures .0) (c .before .before .before .before .before .if2 .left ∙ c .before .before .before .before .before .before .pda .ensures) (is-file _ _ (c .before .before .before .before .before .before .before .before .before .before .before .before .pre .2) _ (sym (c .before .before .before .before .before .before .before .before .candidate .ensures) ∙ not-false _ (c .before .before .before .before .before .before .before .if1 .left))) (c .before .if3 .left) (c .nth .ensures .0)
+returns-4 c = let o = opened (c .before .before .before .before .before .before .before .before .before .before .before .before .pre .0) (c .before .before .before .before .before .before .before .before .before .before .before .before .pre .2) _ (sym (c .before .before .before .before .before .before .before .before .candidate .ensures) ∙ not-false _ (c .before .before .before .before .before .before .before .if1 .left)) in owned-here _ _ _ _ _ (c .before .before .before .before .before .before .before .before .before .before .pair .ensures .0) (c .before .before .before .before .before .before .before .before .before .pda-block .ensures .0) _ (c .before .before .before .key-in .ensures .0) (c .before .before .before .before .before .if2 .left ∙ c .before .before .before .before .before .before .pda .ensures) (is-file _ _ (c .before .before .before .before .before .before .before .before .before .before .before .before .pre .2) _ (sym (c .before .before .before .before .before .before .before .before .candidate .ensures) ∙ not-false _ (c .before .before .before .before .before .before .before .if1 .left))) (has-is o (c .before .before .before .before .len .ensures .0) _ (c .before .before .has-key .ensures) ∙ not-false _ (c .before .if3 .left)) (c .spot .ensures .0)
 
 pub owned-spec : {M : Type 1} → statement M
 owned-spec =
@@ -44,8 +40,7 @@ owned-spec =
     returns-2
     len-requires
     (λ c κs. search needs)
-    place-in-requires
-    add-if3
+    has-key-requires
     returns-3
-    nth-requires
+    spot-requires
     returns-4)

@@ -1,27 +1,42 @@
+use Prim.Native.Nat.{_-_}
 use native.Mathlib.Omega.{arith}
-use borrow.Author.Tests.{lt-ltb, le-ltb}
-use Rattle.inspect.proofs.Laws.{opened-few}
-use Rattle.links.proofs.Laws.{tail-block}
 use borrow.Author.Needs.{needs}
+use Rattle.image.specs.Image.{view}
+use Rattle.links.proofs.Walk.{Tailing, tail-starts, tail-fails, tail-next, tail-end}
 use Rattle.links.proofs.tail_good.Statement.{statement}
 use Rattle.links.proofs.tail_good.Tie as tie
 
-mul-if1 : tie.Need-mul-if1
-mul-if1 c = let o = c .before .pre .0 in omega (arith, opened-few o, o .short)
+abbrev Inv-loop : tie.InvT-loop
+Inv-loop img n k q used i₀ i = Tailing (view img) n k q i
 
-add-if1 : tie.Need-add-if1
-add-if1 c = let o = c .before .pre .0 in omega (arith, opened-few o, o .short)
+abbrev μ-loop : tie.MeasureT-loop
+μ-loop img n k q used i₀ i = 128 - i
 
-add-if1-2 : tie.Need-add-if1-2
-add-if1-2 c = let o = c .before .pre .0 in omega (arith, opened-few o, o .short)
+loop-holds : tie.Need-loop-holds Inv-loop μ-loop
+loop-holds c = tail-starts (c .before .before .pre .2) (c .entries-of .ensures .0) (c .entries-of .ensures .1)
 
-returns : tie.Need-returns
-returns c = rw (lt-ltb _ _ (c .if1 .taken))
+returns : tie.Need-returns Inv-loop μ-loop
+returns c = tail-fails (c .before .before .before .loop .inv) (omega arith) (c .before .pair .ensures .0) (c .if1 .taken)
 
-returns-2 : tie.Need-returns-2
-returns-2 c = let h = c .before .before .before .pre in rw (le-ltb _ _ (c .before .if1 .left), c .pair .ensures .0, tail-block (h .0) _ (h .1) (h .2))
+loop-again : tie.Need-loop-again Inv-loop μ-loop
+loop-again c = tail-next (c .before .before .before .loop .inv) (omega arith) (c .before .pair .ensures .0) (c .if1 .left)
+
+returns-2 : tie.Need-returns-2 Inv-loop μ-loop
+returns-2 c = tail-end (c .before .loop .inv) (omega arith)
 
 pub tail-good-spec : {M : Type 1} → statement M
 tail-good-spec =
     tie.close
-    (tie.spec (λ c. search needs) mul-if1 add-if1 add-if1-2 returns (λ c. search needs) (λ c. search needs) (λ c κs. search needs) returns-2)
+    (tie.spec
+    Inv-loop
+    μ-loop
+    (λ c κs. search needs)
+    loop-holds
+    (λ c. search needs)
+    (λ c. search needs)
+    (λ c κs. search needs)
+    returns
+    (λ c. search needs)
+    (λ c. search needs)
+    loop-again
+    returns-2)

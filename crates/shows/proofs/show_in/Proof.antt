@@ -1,7 +1,6 @@
 use mathlib.Core.Path.{sym, _∙_}
 use native.Mathlib.Omega.{arith}
 use borrow.Author.Tests.{lt-ltb, le-ltb, not-true, not-false}
-use Rattle.volume.specs.Files.{candidate, len, name}
 use Rattle.volume.specs.Answers.{showIn}
 use Rattle.volume.specs.Reads.{candidate-in}
 use Rattle.inspect.proofs.Laws.{wf-opened}
@@ -28,11 +27,11 @@ len-requires : tie.Need-len-requires
 len-requires c κs = let i = c .before .before .before .before .before .before .pre in omega (arith, i .within, candidate-in _ _ _ (sym (c .before .before .before .before .candidate .ensures) ∙ not-false _ (c .before .before .before .if1 .left)) .1)
 
 name-requires : tie.Need-name-requires
-name-requires c κs = (wf-opened _ _ _ (c .before .before .before .before .before .before .before .before .before .pre) (candidate-in _ _ _ (sym (c .before .before .before .before .before .before .before .candidate .ensures) ∙ not-false _ (c .before .before .before .before .before .before .if1 .left)) .1) (c .before .before .len .ensures .0) (c .ptrs-for .ensures) (sym (c .before .before .before .before .before .well-formed .ensures) ∙ not-false _ (c .before .before .before .before .if2 .left)), c .before .if4 .taken)
+name-requires c κs = (wf-opened _ (c .before .before .before .before .before .before .before .before .pre) (candidate-in _ _ _ (sym (c .before .before .before .before .before .before .candidate .ensures) ∙ not-false _ (c .before .before .before .before .before .if1 .left)) .1) (sym (c .before .before .before .before .well-formed .ensures) ∙ not-false _ (c .before .before .before .if2 .left)), rw (c .before .len .ensures .0) at (c .if4 .taken))
 
 returns-4 : tie.Need-returns-4
 unfolding showIn
-returns-4 c = rw (sym (c .before .before .before .before .before .before .before .before .candidate .ensures) ∙ not-false _ (c .before .before .before .before .before .before .before .if1 .left), sym (c .before .before .before .before .before .before .well-formed .ensures) ∙ not-false _ (c .before .before .before .before .before .if2 .left), lt-ltb _ 4160 (c .before .before .before .before .if3 .left), lt-ltb _ _ (rw (c .before .before .before .len .ensures .0) at (c .before .before .if4 .taken)), showIn, c .name .ensures .0)
+returns-4 c = rw (sym (c .before .before .before .before .before .before .before .candidate .ensures) ∙ not-false _ (c .before .before .before .before .before .before .if1 .left), sym (c .before .before .before .before .before .well-formed .ensures) ∙ not-false _ (c .before .before .before .before .if2 .left), lt-ltb _ 4160 (c .before .before .before .if3 .left), lt-ltb _ _ (rw (c .before .before .len .ensures .0) at (c .before .if4 .taken)), showIn, c .name .ensures .0)
 
 returns-5 : tie.Need-returns-5
 unfolding showIn
@@ -48,7 +47,6 @@ show-in-spec =
     returns-2
     returns-3
     len-requires
-    (λ c κs. search needs)
     name-requires
     (λ c. search needs)
     (λ c. search needs)

@@ -1,4 +1,3 @@
-use Prim.Native.Nat.{_-_}
 use borrow.Author.Needs.{needs}
 use Rattle.verify.proofs.Surveys.{check-faulty-at, check-faulty}
 use Rattle.verify.proofs.faulty.Statement.{statement}

@@ -1,5 +1,4 @@
 use mathlib.Core.Path.{sym, _∙_}
-use Prim.Native.Nat.{_-_}
 use borrow.Author.Needs.{needs}
 use Rattle.verify.proofs.Chains.{free-wrong, free-counts, free-few, chain-rest, last-is-in}
 use Rattle.verify.proofs.Surveys.{free-rest}

@@ -23,9 +23,6 @@ loop-holds c = walk-starts _ _ _ (c .before .pre .1)
 step-at-requires : tie.Need-step-at-requires Inv-loop μ-loop
 step-at-requires c κs = let h = c .before .before .before .pre in (h .0, c .before .loop .inv .here, c .before .loop .inv .back, h .2)
 
-enum-told : tie.Need-enum-told Inv-loop μ-loop
-enum-told c = search needs
-
 loop-again : tie.Need-loop-again Inv-loop μ-loop
 loop-again c = walk-on (c .before .before .before .before .before .loop .inv) (c .before .before .before .before .if1 .left) (c .before .before .before .step-at .ensures) (c .before .x .given .1)
 
@@ -47,7 +44,7 @@ walk-from-spec =
     sub-most
     loop-holds
     step-at-requires
-    enum-told
+    (λ c. search needs)
     (λ c. search needs)
     (λ c. search needs)
     (λ c. search needs)

@@ -18,7 +18,7 @@ len-requires : tie.Need-len-requires
 len-requires c κs = block-fib (c .before .before .before .before .before .before .before .pre .0) _ (sym (c .before .before .before .candidate .ensures) ∙ not-false _ (c .before .before .if1 .left)) .within
 
 replace-open-requires : tie.Need-replace-open-requires
-replace-open-requires c κs = (c .before .before .before .before .before .before .before .before .before .before .pre .0, sym (c .before .before .before .before .before .before .candidate .ensures) ∙ not-false _ (c .before .before .before .before .before .if1 .left), c .before .before .len .ensures .0, c .before .before .len .ensures .1, c .before .before .before .before .if2 .left, c .before .if3 .taken, c .before .before .before .before .before .before .before .before .before .before .pre .1)
+replace-open-requires c κs = (c .before .before .before .before .before .before .before .before .before .before .pre .0, sym (c .before .before .before .before .before .before .candidate .ensures) ∙ not-false _ (c .before .before .before .before .before .if1 .left), c .before .before .before .before .if2 .left, omega (arith, c .before .before .len .ensures .0, c .before .if3 .taken), c .before .before .before .before .before .before .before .before .before .before .pre .1)
 
 returns-4 : tie.Need-returns-4
 returns-4 c = answered-not BadBlock (write-far _ _ _ _ _ (sym (c .before .before .before .before .before .before .before .candidate .ensures) ∙ not-false _ (c .before .before .before .before .before .before .if1 .left)) _ (c .before .before .before .len .ensures .0) (c .before .before .before .before .before .if2 .left) (c .before .if4 .taken)) (c .refused3 .ensures)

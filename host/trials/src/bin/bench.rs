@@ -222,13 +222,17 @@ fn repairs() {
     }
 }
 
+/// What `once` can be asked for.
+const ONCE: &str = "long, empty, repair, extract, tree or look_up";
+
 /// One call on one image, for a tool that counts what happens inside of it.
 fn once(what: &str, m: u32) {
-    let image = match what {
-        "long" => long_files(m),
+    let mut image = match what {
+        "long" | "repair" => long_files(m),
         "empty" => empty_files(m),
+        "extract" => scattered(DRIVE, 5_000, 1, 4_999, &[m], 1),
         "tree" | "look_up" => two_thousand_entries(),
-        other => panic!("{other}: it is long, empty, tree or look_up"),
+        other => panic!("{other}: it is {ONCE}"),
     };
     #[cfg(feature = "reading")]
     println!(
@@ -236,17 +240,20 @@ fn once(what: &str, m: u32) {
         match what {
             "tree" => raw::tree(&image, DRIVE, 1, &[], &mut vec![0; 32 * m as usize]),
             "look_up" => raw::look_up(&image, DRIVE, 1, &[], LAST_PATH),
+            "extract" => raw::extract(&image, DRIVE, 1, 2, &mut vec![0; 512 * m as usize]),
+            #[cfg(feature = "changing")]
+            "repair" => raw::repair(&mut image, DRIVE, 1, u32::MAX),
             _ => raw::check(&image, DRIVE, 1),
         }
     );
     #[cfg(not(feature = "reading"))]
-    println!("{} bytes, and no call to count in", image.len());
+    println!("{} bytes, and no call to count in", image.as_mut_slice().len());
 }
 
 fn main() {
     let words: Vec<String> = env::args().skip(1).collect();
     if let [once_word, what, m] = words.as_slice() {
-        assert_eq!(once_word, "once", "usage: bench [once long|empty|tree|look_up M]");
+        assert_eq!(once_word, "once", "usage: bench [once WHAT M], where WHAT is {ONCE}");
         return once(what, m.parse().expect("a number of blocks or rows"));
     }
     println!("{:<26} {:>7} {:>9} {:<9} {:>9}", "call", "blocks", "library", "", "ratio");

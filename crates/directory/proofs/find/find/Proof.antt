@@ -8,50 +8,53 @@ use Rattle.directory.proofs.find.find.Statement.{statement}
 use Rattle.directory.proofs.find.find.Tie as tie
 
 abbrev Inv-loop2 : tie.InvT-loop2
-Inv-loop2 img drive s e rule f p k part r b i₀ i = let π = partitionOf drive s e in (Searching (defs.hit π img (defs.selected rule) part f) (16 * k) (16 * r + i) (defs.find π img (defs.selected rule) part f)) × (i ≤ 16)
+Inv-loop2 img drive s e rule f part k r b i₀ i = let π = partitionOf drive s e in (Searching (defs.hit π img (defs.selected rule) part f) (16 * k) (16 * r + i) (defs.find π img (defs.selected rule) part f)) × (i ≤ 16)
 
 abbrev μ-loop2 : tie.MeasureT-loop2
-μ-loop2 img drive s e rule f p k part r b i₀ i = 16 - i
+μ-loop2 img drive s e rule f part k r b i₀ i = 16 - i
 
 abbrev Inv-loop : tie.InvT-loop
-Inv-loop img drive s e rule f p k part r₀ r = let π = partitionOf drive s e in (Searching (defs.hit π img (defs.selected rule) part f) (16 * k) (16 * r) (defs.find π img (defs.selected rule) part f)) × (r ≤ k)
+Inv-loop img drive s e rule f part k r₀ r = let π = partitionOf drive s e in (Searching (defs.hit π img (defs.selected rule) part f) (16 * k) (16 * r) (defs.find π img (defs.selected rule) part f)) × (r ≤ k)
 
 abbrev μ-loop : tie.MeasureT-loop
-μ-loop img drive s e rule f p k part r₀ r = k - r
+μ-loop img drive s e rule f part k r₀ r = k - r
 
 loop-holds : tie.Need-loop-holds Inv-loop2 μ-loop2 Inv-loop μ-loop
-loop-holds c = (find-starts _ _ _ _ _ _ (c .before .before .before .pre .0 .is-len), omega arith)
+loop-holds c = (find-starts _ _ _ _ _ _ (c .len .ensures .0), omega arith)
+
+len-requires : tie.Need-len-requires Inv-loop2 μ-loop2 Inv-loop μ-loop
+len-requires c κs = let o = c .before .before .before .pre .0 in omega (arith, o .here, o .lies .within)
 
 name-requires : tie.Need-name-requires Inv-loop2 μ-loop2 Inv-loop μ-loop
-name-requires c κs = (c .before .before .before .before .before .pre .0, c .loop-test .taken)
+name-requires c κs = (c .before .before .before .before .before .before .pre .0, rw (c .before .before .len .ensures .0) at (c .loop-test .taken))
 
 loop2-holds : tie.Need-loop2-holds Inv-loop2 μ-loop2 Inv-loop μ-loop
 loop2-holds c = (find-to _ _ _ _ (omega arith) (c .before .before .loop .inv .0), omega arith)
 
 mul-has-name : tie.Need-mul-has-name Inv-loop2 μ-loop2 Inv-loop μ-loop
-mul-has-name c = let i = c .before .before .before .before .before .before .before .before .pre .0 .lies .within in let n = c .before .before .name .ensures .1 in let t = c .loop2-test .taken in omega arith
+mul-has-name c = let i = c .before .before .before .before .before .before .before .before .before .pre .0 .lies .within in let n = c .before .before .name .ensures .1 in let t = c .loop2-test .taken in omega arith
 
 add-has-name : tie.Need-add-has-name Inv-loop2 μ-loop2 Inv-loop μ-loop
-add-has-name c = let i = c .before .before .before .before .before .before .before .before .pre .0 .lies .within in let n = c .before .before .name .ensures .1 in let t = c .loop2-test .taken in omega arith
+add-has-name c = let i = c .before .before .before .before .before .before .before .before .before .pre .0 .lies .within in let n = c .before .before .name .ensures .1 in let t = c .loop2-test .taken in omega arith
 
 mul-has-name-2 : tie.Need-mul-has-name-2 Inv-loop2 μ-loop2 Inv-loop μ-loop
-mul-has-name-2 c = let i = c .before .before .before .before .before .before .before .before .pre .0 .lies .within in let n = c .before .before .name .ensures .1 in let t = c .loop2-test .taken in omega arith
+mul-has-name-2 c = let i = c .before .before .before .before .before .before .before .before .before .pre .0 .lies .within in let n = c .before .before .name .ensures .1 in let t = c .loop2-test .taken in omega arith
 
 add-has-name-2 : tie.Need-add-has-name-2 Inv-loop2 μ-loop2 Inv-loop μ-loop
-add-has-name-2 c = let i = c .before .before .before .before .before .before .before .before .pre .0 .lies .within in let n = c .before .before .name .ensures .1 in let t = c .loop2-test .taken in omega arith
+add-has-name-2 c = let i = c .before .before .before .before .before .before .before .before .before .pre .0 .lies .within in let n = c .before .before .name .ensures .1 in let t = c .loop2-test .taken in omega arith
 
 has-name-requires :
     tie.Need-has-name-requires Inv-loop2 μ-loop2 Inv-loop μ-loop
-has-name-requires c κs = ((let i = c .before .before .before .before .before .before .before .before .pre .0 .lies .within in let n = c .before .before .name .ensures .1 in let t = c .loop2-test .taken in omega arith), c .before .before .before .before .before .before .before .before .pre .1)
+has-name-requires c κs = ((let i = c .before .before .before .before .before .before .before .before .before .pre .0 .lies .within in let n = c .before .before .name .ensures .1 in let t = c .loop2-test .taken in omega arith), c .before .before .before .before .before .before .before .before .before .pre .1)
 
-mul-t20 : tie.Need-mul-t20 Inv-loop2 μ-loop2 Inv-loop μ-loop
-mul-t20 c = let s = c .before .before .before .before .before .before .before .before .before .before .pre .0 .short in let t = c .before .before .before .before .before .loop-test .taken in omega arith
+mul-t19 : tie.Need-mul-t19 Inv-loop2 μ-loop2 Inv-loop μ-loop
+mul-t19 c = let s = c .before .before .before .before .before .before .before .len .ensures .1 in let t = c .before .before .before .before .before .loop-test .taken in omega arith
 
-add-t21 : tie.Need-add-t21 Inv-loop2 μ-loop2 Inv-loop μ-loop
-add-t21 c = let s = c .before .before .before .before .before .before .before .before .before .before .pre .0 .short in let t = c .before .before .before .before .before .loop-test .taken in let j = c .before .before .loop2-test .taken in omega arith
+add-t20 : tie.Need-add-t20 Inv-loop2 μ-loop2 Inv-loop μ-loop
+add-t20 c = let s = c .before .before .before .before .before .before .before .len .ensures .1 in let t = c .before .before .before .before .before .loop-test .taken in let j = c .before .before .loop2-test .taken in omega arith
 
 returns : tie.Need-returns Inv-loop2 μ-loop2 Inv-loop μ-loop
-returns c = find-hit (partitionOf (c .before .before .before .before .before .before .before .before .before .before .args .drive) (c .before .before .before .before .before .before .before .before .before .before .args .s) (c .before .before .before .before .before .before .before .before .before .before .args .e)) _ _ _ (c .before .before .before .before .before .before .before .before .before .before .args .f) (c .before .before .before .before .before .before .before .before .before .before .args .k) _ _ _ (c .before .before .before .loop2 .inv .0) (c .before .before .loop2-test .taken) (c .before .before .before .before .before .loop-test .taken) (c .before .before .before .before .name .ensures .0) (c .before .has-name .ensures) (c .if1 .taken)
+returns c = find-hit (partitionOf (c .before .before .before .before .before .before .before .before .before .before .before .args .drive) (c .before .before .before .before .before .before .before .before .before .before .before .args .s) (c .before .before .before .before .before .before .before .before .before .before .before .args .e)) _ _ _ (c .before .before .before .before .before .before .before .before .before .before .before .args .f) (c .before .before .before .before .before .before .before .len .result) _ _ _ (c .before .before .before .loop2 .inv .0) (c .before .before .loop2-test .taken) (c .before .before .before .before .before .loop-test .taken) (c .before .before .before .before .name .ensures .0) (c .before .has-name .ensures) (c .if1 .taken)
 
 add-i : tie.Need-add-i Inv-loop2 μ-loop2 Inv-loop μ-loop
 add-i c = let t = c .before .before .loop2-test .taken in omega arith
@@ -60,10 +63,10 @@ loop2-less : tie.Need-loop2-less Inv-loop2 μ-loop2 Inv-loop μ-loop
 loop2-less c = let t = c .before .before .loop2-test .taken in omega arith
 
 loop2-again : tie.Need-loop2-again Inv-loop2 μ-loop2 Inv-loop μ-loop
-loop2-again c = (find-next (partitionOf (c .before .before .before .before .before .before .before .before .before .before .args .drive) (c .before .before .before .before .before .before .before .before .before .before .args .s) (c .before .before .before .before .before .before .before .before .before .before .args .e)) _ _ _ (c .before .before .before .before .before .before .before .before .before .before .args .f) (c .before .before .before .before .before .before .before .before .before .before .args .k) _ _ _ (c .before .before .before .loop2 .inv .0) (c .before .before .loop2-test .taken) (c .before .before .before .before .before .loop-test .taken) (c .before .before .before .before .name .ensures .0) (c .before .has-name .ensures) (c .if1 .left), (let t = c .before .before .loop2-test .taken in omega arith))
+loop2-again c = (find-next (partitionOf (c .before .before .before .before .before .before .before .before .before .before .before .args .drive) (c .before .before .before .before .before .before .before .before .before .before .before .args .s) (c .before .before .before .before .before .before .before .before .before .before .before .args .e)) _ _ _ (c .before .before .before .before .before .before .before .before .before .before .before .args .f) (c .before .before .before .before .before .before .before .len .result) _ _ _ (c .before .before .before .loop2 .inv .0) (c .before .before .loop2-test .taken) (c .before .before .before .before .before .loop-test .taken) (c .before .before .before .before .name .ensures .0) (c .before .has-name .ensures) (c .if1 .left), (let t = c .before .before .loop2-test .taken in omega arith))
 
 add-r : tie.Need-add-r Inv-loop2 μ-loop2 Inv-loop μ-loop
-add-r c = let s = c .before .before .before .before .before .before .before .before .pre .0 .short in let t = c .before .before .before .loop-test .taken in omega arith
+add-r c = let s = c .before .before .before .before .before .len .ensures .1 in let t = c .before .before .before .loop-test .taken in omega arith
 
 loop-less : tie.Need-loop-less Inv-loop2 μ-loop2 Inv-loop μ-loop
 loop-less c = let t = c .before .before .before .loop-test .taken in omega arith
@@ -82,6 +85,7 @@ find-spec =
     μ-loop2
     Inv-loop
     μ-loop
+    len-requires
     loop-holds
     name-requires
     loop2-holds
@@ -90,8 +94,8 @@ find-spec =
     mul-has-name-2
     add-has-name-2
     has-name-requires
-    mul-t20
-    add-t21
+    mul-t19
+    add-t20
     returns
     add-i
     loop2-less

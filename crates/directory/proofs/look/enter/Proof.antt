@@ -1,19 +1,16 @@
 use mathlib.Core.Path.{sym, _∙_}
 use native.Mathlib.Omega.{arith}
 use Rattle.directory.specs.Paths.{found-below, enter-absent, enter-file, enter-dangling}
-use Rattle.directory.proofs.Laws.{file-inside, file-opened}
+use Rattle.directory.proofs.Laws.{file-opened}
 use borrow.Author.Needs.{needs}
 use Rattle.directory.proofs.look.enter.Statement.{statement}
 use Rattle.directory.proofs.look.enter.Tie as tie
 
-len-requires : tie.Need-len-requires
-len-requires c κs = file-inside _ _ _ _ (c .before .before .before .pre .0) _ (c .before .before .before .pre .2)
-
 find-requires : tie.Need-find-requires
-find-requires c κs = ((file-opened _ _ _ _ (c .before .before .before .before .before .pre .0) _ (c .before .before .before .before .before .pre .2) _ _ (c .before .len .ensures .0) (c .ptrs-for .ensures)), c .before .before .before .before .before .pre .1)
+find-requires c κs = (file-opened _ _ _ _ (c .before .before .before .pre .0) _ (c .before .before .before .pre .2), c .before .before .before .pre .1)
 
 name-requires : tie.Need-name-requires
-name-requires c κs = ((file-opened _ _ _ _ (c .before .before .before .before .before .before .before .before .before .pre .0) _ (c .before .before .before .before .before .before .before .before .before .pre .2) _ _ (c .before .before .before .before .before .len .ensures .0) (c .before .before .before .before .ptrs-for .ensures)), (let z = found-below _ _ _ _ _ _ _ (c .before .before .before .before .before .len .ensures .0) (sym (c .before .before .before .find .ensures) ∙ c .before .x .given .1) in omega arith))
+name-requires c κs = (file-opened _ _ _ _ (c .before .before .before .before .before .before .before .pre .0) _ (c .before .before .before .before .before .before .before .pre .2), (let z = found-below _ _ _ _ _ _ (sym (c .before .before .before .find .ensures) ∙ c .before .x .given .1) in omega arith))
 
 returns : tie.Need-returns
 returns c = enter-absent _ _ _ _ _ (c .before .before .find .ensures) (c .enum-told .given .1)
@@ -28,8 +25,6 @@ pub enter-spec : {M : Type 1} → statement M
 enter-spec =
     tie.close
     (tie.spec
-    len-requires
-    (λ c κs. search needs)
     find-requires
     (λ c. search needs)
     (λ c. search needs)

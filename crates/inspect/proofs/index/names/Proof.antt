@@ -1,10 +1,9 @@
-use mathlib.Core.Path.{refl, sym, ap, _∙_}
-use borrow.Author.Tests.{lt-ltb, le-ltb, le-leb, lt-leb}
+use mathlib.Core.Path.{sym, _∙_}
+use borrow.Author.Tests.{lt-ltb, le-ltb, le-leb, lt-leb, not-true, not-false}
 use Rattle.base.specs.Tests.{both, every}
-use Rattle.drive.specs.Address.{lda}
-use Rattle.image.specs.View.{pair}
-use Rattle.volume.specs.Files.{inside, names}
+use Rattle.volume.specs.Files.{inside}
 use Rattle.volume.specs.Steps.{every-no, both-no, both-no-2, ne-of, eq-of, and-true}
+use Rattle.inspect.specs.Form.{names}
 use Rattle.inspect.proofs.Signs.{self}
 use borrow.Author.Needs.{needs}
 use Rattle.inspect.proofs.index.names.Statement.{statement}
@@ -20,7 +19,7 @@ returns-2 c = sym (every-no _ 1 (both-no-2 _ _ (lt-leb _ _ (rw (c .before .befor
 
 returns-3 : tie.Need-returns-3
 unfolding names
-returns-3 c = sym (every-no _ 0 (ne-of refl (c .before .lda .ensures ∙ ap (lda _) (c .before .before .before .before .lda-block .ensures .0)) (λ q. c .if3 .taken (sym q))))
+returns-3 c = sym (every-no _ 0 (sym (rw (c .before .before .before .before .lda-block .ensures .0) at (c .before .is-lda .ensures)) ∙ not-true _ (c .if3 .taken)))
 
 returns-4 : tie.Need-returns-4
 unfolding names
@@ -28,7 +27,7 @@ returns-4 c = sym (every-no _ 2 (ne-of (rw (c .before .before .before .before .b
 
 returns-5 : tie.Need-returns-5
 unfolding names inside both every
-returns-5 c = let z = c .before .before .before .before .before .before .before .lda-block .ensures .0 in rw (lt-ltb _ _ (rw z at (c .before .before .before .before .before .before .if1 .left)), le-leb _ _ (rw z at (c .before .before .before .before .before .if2 .left)), eq-of refl (c .before .before .before .before .lda .ensures ∙ ap (lda _) z) (sym (c .before .before .before .if3 .left)), eq-of (rw z at (c .before .before .pair .ensures .0)) (c .before .before .before .before .before .before .before .before .before .pre .1) (c .before .if4 .left)) (rw (self _ (c .before .before .before .before .before .before .before .before .before .pre .2)) at (c .has-number .ensures) ∙ rw z (sym (and-true _)))
+returns-5 c = let z = c .before .before .before .before .before .before .before .lda-block .ensures .0 in rw (sym (rw z at (c .before .before .before .before .is-lda .ensures)) ∙ not-false _ (c .before .before .before .if3 .left), lt-ltb _ _ (rw z at (c .before .before .before .before .before .before .if1 .left)), le-leb _ _ (rw z at (c .before .before .before .before .before .if2 .left)), eq-of (rw z at (c .before .before .pair .ensures .0)) (c .before .before .before .before .before .before .before .before .before .pre .1) (c .before .if4 .left)) (rw (self _ (c .before .before .before .before .before .before .before .before .before .pre .2)) at (c .has-number .ensures) ∙ rw z (sym (and-true _)))
 
 pub names-spec : {M : Type 1} → statement M
 names-spec =

@@ -1,0 +1,55 @@
+use native.Mathlib.Omega.{arith}
+use Rattle.append.specs.Bodies.{grownFib}
+use Rattle.append.specs.Growing.{fibStore}
+use Rattle.append.proofs.Laws.{direct-in, low-there, home-there}
+use borrow.Author.Needs.{needs}
+use Rattle.append.proofs.fib_save.Statement.{statement}
+use Rattle.append.proofs.fib_save.Tie as tie
+
+block-of-requires : tie.Need-block-of-requires
+block-of-requires c κs = (c .before .before .pre, low-there (c .before .before .pre) _ (c .low .ensures .0))
+
+pair-if-requires-2 : tie.Need-pair-if-requires-2
+pair-if-requires-2 c κs = (direct-in _, c .before .before .before .before .lda-of .ensures .1)
+
+add-size-of : tie.Need-add-size-of
+add-size-of c = omega (arith, c .before .before .before .before .before .before .before .before .before .before .before .before .before .before .before .pre .far)
+
+size-of-requires : tie.Need-size-of-requires
+size-of-requires c κs = omega (arith, c .before .before .before .before .before .before .before .before .before .before .before .before .before .before .before .pre .far)
+
+key-save-requires : tie.Need-key-save-requires
+key-save-requires c κs = (c .before .before .before .before .before .before .before .before .before .before .before .before .before .before .before .before .before .pre, home-there (c .before .before .before .before .before .before .before .before .before .before .before .before .before .before .before .before .before .pre))
+
+returns : tie.Need-returns
+unfolding fibStore grownFib
+returns c = rw (c .before .with-word3 .ensures, c .before .before .size-of .ensures .0, c .before .before .before .with-word2 .ensures, c .before .before .before .before .number .ensures .0, c .before .before .before .before .before .with-pair2 .ensures, c .before .before .before .before .before .before .lda-of3 .ensures .0, c .before .before .before .before .before .before .before .with-word .ensures, c .before .before .before .before .before .before .before .before .with-pair .ensures, c .before .before .before .before .before .before .before .before .before .pair-if2 .ensures, c .before .before .before .before .before .before .before .before .before .before .pair-if .ensures, c .before .before .before .before .before .before .before .before .before .before .before .before .before .lda-of2 .ensures .0, c .before .before .before .before .before .before .before .before .before .before .before .grows .ensures, c .before .before .before .before .before .before .before .before .before .before .before .before .«record» .ensures, c .before .before .before .before .before .before .before .before .before .before .before .before .before .before .lda-of .ensures .0, c .before .before .before .before .before .before .before .before .before .before .before .before .before .before .before .block-of .ensures .0, c .before .before .before .before .before .before .before .before .before .before .before .before .before .before .before .before .low .ensures .0) at (c .key-save .ensures)
+
+pub fib-save-spec : {M : Type 1} → statement M
+fib-save-spec =
+    tie.close
+    (tie.spec
+    (λ c. search needs)
+    (λ c κs. search needs)
+    block-of-requires
+    (λ c κs. search needs)
+    (λ c κs. search needs)
+    (λ c κs. search needs)
+    (λ c κs. search needs)
+    (λ c. search needs)
+    (λ c. search needs)
+    (λ c κs. search needs)
+    (λ c. search needs)
+    (λ c. search needs)
+    pair-if-requires-2
+    (λ c κs. search needs)
+    (λ c κs. search needs)
+    (λ c κs. search needs)
+    (λ c κs. search needs)
+    (λ c κs. search needs)
+    (λ c κs. search needs)
+    add-size-of
+    size-of-requires
+    (λ c κs. search needs)
+    key-save-requires
+    returns)

@@ -1,0 +1,6 @@
+pub mod Links
+pub mod Numbers
+pub mod Grown
+pub mod Bodies
+pub mod Growing
+pub mod Row

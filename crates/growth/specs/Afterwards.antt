@@ -1,0 +1,164 @@
+-- The file after a write, key by key: L, what is present and where; each key has its own block, none that of the free chain or the PIB.
+use mathlib.Core.Path.{_≡_, refl, sym, ap, _∙_}
+use mathlib.Core.Logic.{_⊎_, inl, inr, _≢_}
+use mathlib.Core.Bool.{Bool, true, false, _||_, true≢false}
+use Prim.Native.Nat.{ℕ, suc, _+_, _≤_, _<_}
+use native.Mathlib.Omega.{arith}
+use lib.Dec.{ltb, eqb}
+use borrow.Author.Tests.{ltb-true, ltb-false, eqb-true, eqb-false}
+use Rattle.base.specs.Tests.{pick}
+use Rattle.base.specs.Laws.{both-left}
+use Rattle.image.specs.View.{View}
+use Rattle.volume.specs.Keys.{home, reach, first, low}
+use Rattle.volume.specs.KeyLaws.{asked-low, asked-high, low-home, first-data, first-pointer, first-doubles}
+use Rattle.volume.specs.Files.{Partition, inside, len, spot, present, key, owned}
+use Rattle.volume.specs.Index.{here-of, spot-home, present-home, wf-of, member, member-owned, key-back}
+use Rattle.volume.specs.Plans.{freeAt}
+use Rattle.volume.specs.Writes.{over, needs, isNew, fresh, len′, present′, spot′}
+use Rattle.growth.specs.Ready.{Ready}
+use Rattle.growth.specs.Path.{or-left, or-right, or-split, over-zero, over-data, placed, needs-some, needs-more, new-at, new-gone, new-first, fresh-at, fresh-in, fresh-free, fresh-one}
+
+module _ (π : Partition) (v : View) (f r : ℕ) where
+  -- ---- what is present, and where
+
+  pub present-new : (k : ℕ) → isNew π v f r k ≡ true → present′ π v f r k ≡ true
+  unfolding present′
+  present-new k h = or-left _ (present π v f k) h
+
+  pub present-old : (k : ℕ) → present π v f k ≡ true → present′ π v f r k ≡ true
+  unfolding present′
+  present-old k h = or-right (isNew π v f r k) _ h
+
+  pub present-split : (k : ℕ) → present′ π v f r k ≡ true → (isNew π v f r k ≡ true) ⊎ (present π v f k ≡ true)
+  unfolding present′
+  present-split k h = or-split (isNew π v f r k) (present π v f k) h
+
+  pub present-not : (k : ℕ) → isNew π v f r k ≡ false → present′ π v f r k ≡ present π v f k
+  unfolding present′
+  present-not k h = ap (λ (t : Bool). t || present π v f k) h
+
+  pub spot-new : (k : ℕ) → isNew π v f r k ≡ true → spot′ π v f r k ≡ fresh π v f r k
+  unfolding spot′
+  spot-new k h = ap (λ (t : Bool). pick t (fresh π v f r k) (spot π v f k)) h
+
+  pub spot-old : (k : ℕ) → isNew π v f r k ≡ false → spot′ π v f r k ≡ spot π v f k
+  unfolding spot′
+  spot-old k h = ap (λ (t : Bool). pick t (fresh π v f r k) (spot π v f k)) h
+
+  pub home-there : present′ π v f r home ≡ true
+  home-there = present-old home (present-home π v f)
+
+  module _ (ok : Ready π v f r) where
+    -- ---- L: one block more
+
+    pub len-grown : len′ π v f r ≡ suc r
+    unfolding len′
+    len-grown = refl
+
+    pub len-more : len π v f ≤ len′ π v f r
+    len-more = omega (arith, len-grown, ok .next)
+
+    pub len-over : r < len′ π v f r
+    len-over = omega (arith, len-grown)
+
+    pub len-short : len′ π v f r ≤ reach
+    len-short = omega (arith, len-grown, ok .far)
+
+    -- what is present is asked for, or the FIB
+    pub asked′ : (k : ℕ) → k ≢ home → present′ π v f r k ≡ true → first k < len′ π v f r
+    asked′ k n p = go (present-split k p)
+      where
+        go : (isNew π v f r k ≡ true) ⊎ (present π v f k ≡ true) → first k < len′ π v f r
+        go (inl q) = omega (arith, new-first π v f r ok k q, len-over)
+        go (inr q) = omega (arith, here-of π v f k n q .asked, len-more)
+
+    pub range′ : (k : ℕ) → present′ π v f r k ≡ true → (low (len′ π v f r) ≤ k) × (k ≤ home + len′ π v f r)
+    range′ k p = go (eqb k home) refl
+      where
+        go : (t : Bool) → eqb k home ≡ t → (low (len′ π v f r) ≤ k) × (k ≤ home + len′ π v f r)
+        go true q = let e = eqb-true k home q in (omega (arith, low-home (len′ π v f r)), omega arith)
+        go false q = let a = asked′ k (eqb-false k home q) p in (asked-low k (len′ π v f r) a, asked-high k (len′ π v f r) a)
+
+    -- what is asked for is present: block r and, where it is the first of a pointer block, that block are new
+    pub full′ : (k : ℕ) → first k < len′ π v f r → present′ π v f r k ≡ true
+    full′ k l = go (ltb (first k) (len π v f)) refl
+      where
+        data-key : home < k → r ≤ first k → present′ π v f r k ≡ true
+        data-key h m =
+            let e : k ≡ over r 0 = omega (arith, first-data k h, over-zero r, len-grown) in
+            ap (present′ π v f r) e ∙ present-new (over r 0) (new-at π v f r ok 0 (needs-some π v f r ok))
+
+        pointer-key : k ≤ 288 → r ≤ first k → present′ π v f r k ≡ true
+        pointer-key h m = ap (present′ π v f r) e ∙ present-new (over r 1) (new-at π v f r ok 1 (needs-more π v f r ok (absent (present π v f (over r 1)) refl)))
+          where
+            e : k ≡ over r 1
+            e = let g = first-pointer k h in let q : 64 ≤ r = omega (arith, len-grown) in omega (arith, over-data r q, len-grown)
+
+            n : over r 1 ≢ home
+            n z = omega (arith, e)
+
+            absent : (t : Bool) → present π v f (over r 1) ≡ t → t ≡ false
+            absent true q = absurd (omega (arith, here-of π v f (over r 1) n q .asked, ap first e, ok .next))
+            absent false q = refl
+
+        last : r ≤ first k → (t : Bool) → ltb home k ≡ t → (u : Bool) → ltb 288 k ≡ u → (x : Bool) → eqb k home ≡ x → present′ π v f r k ≡ true
+        last m true p u q x y = data-key (ltb-true home k p) m
+        last m false p false q x y = pointer-key (ltb-false 288 k q) m
+        last m false p true q true y = ap (present′ π v f r) (eqb-true k home y) ∙ home-there
+        last m false p true q false y =
+            let a = ltb-true 288 k q in
+            let b = ltb-false home k p in
+            let c = eqb-false k home y in
+            absurd (omega (arith, first-doubles k (omega arith) (omega arith), len-short))
+
+        go : (t : Bool) → ltb (first k) (len π v f) ≡ t → present′ π v f r k ≡ true
+        go true q = present-old k (wf-of π v f (ok .formed) .full k (ltb-true _ _ q))
+        go false q = last (omega (arith, ltb-false (first k) (len π v f) q, ok .next)) (ltb home k) refl (ltb 288 k) refl (eqb k home) refl
+
+    -- ---- old keys keep their blocks, and each key has its own
+
+    pub new-old : (k : ℕ) → present π v f k ≡ true → isNew π v f r k ≡ false
+    new-old k h = go (isNew π v f r k) refl
+      where
+        go : (t : Bool) → isNew π v f r k ≡ t → t ≡ false
+        go true q = absurd (true≢false (sym h ∙ new-gone π v f r ok k q))
+        go false q = refl
+
+    pub old-owned : (k : ℕ) → present π v f k ≡ true → owned π v (spot π v f k) ≡ true
+    old-owned k p = member-owned π v f (ok .cand) (ok .formed) k p
+
+    pub spot-is : (k : ℕ) → present π v f k ≡ true → spot′ π v f r k ≡ spot π v f k
+    spot-is k p = spot-old k (new-old k p)
+
+    pub spot-fib : spot′ π v f r home ≡ f
+    spot-fib = spot-is home (present-home π v f) ∙ spot-home π v f
+
+    pub spot-one : (j k : ℕ) → present′ π v f r j ≡ true → present′ π v f r k ≡ true → spot′ π v f r j ≡ spot′ π v f r k → j ≡ k
+    spot-one j k a b q = go (present-split j a) (present-split k b)
+      where
+        go : (isNew π v f r j ≡ true) ⊎ (present π v f j ≡ true) → (isNew π v f r k ≡ true) ⊎ (present π v f k ≡ true) → j ≡ k
+        go (inl x) (inl y) = fresh-one π v f r ok j k x y (sym (spot-new j x) ∙ q ∙ spot-new k y)
+        go (inl x) (inr y) = absurd (true≢false (sym (old-owned k y) ∙ ap (owned π v) (sym (spot-is k y) ∙ sym q ∙ spot-new j x) ∙ fresh-free π v f r ok j x))
+        go (inr x) (inl y) = absurd (true≢false (sym (old-owned j x) ∙ ap (owned π v) (sym (spot-is j x) ∙ q ∙ spot-new k y) ∙ fresh-free π v f r ok k y))
+        go (inr x) (inr y) = sym (key-back π v f (ok .cand) (ok .formed) j x) ∙ ap (key π v) (sym (spot-is j x) ∙ q ∙ spot-is k y) ∙ key-back π v f (ok .cand) (ok .formed) k y
+
+    pub spot-in : (k : ℕ) → present′ π v f r k ≡ true → inside π (spot′ π v f r k) ≡ true
+    spot-in k p = go (present-split k p)
+      where
+        go : (isNew π v f r k ≡ true) ⊎ (present π v f k ≡ true) → inside π (spot′ π v f r k) ≡ true
+        go (inl q) = ap (inside π) (spot-new k q) ∙ fresh-in π v f r ok k q
+        go (inr q) = ap (inside π) (spot-is k q) ∙ member π v f (ok .cand) (ok .formed) k q .ins
+
+    -- the new first free block is none of the file's, and the PIB is none
+    pub apart-first : (k : ℕ) → present′ π v f r k ≡ true → freeAt π v (needs π v f r) ≢ spot′ π v f r k
+    apart-first k p z = go (present-split k p)
+      where
+        go : (isNew π v f r k ≡ true) ⊎ (present π v f k ≡ true) → ⊥
+        go (inl q) =
+            let x = placed π v f r ok k q in
+            ok .apart (x .i) (needs π v f r) (x .less) (omega arith) (sym (fresh-at π v f r ok (x .i) (x .less)) ∙ ap (fresh π v f r) (sym (x .is)) ∙ sym (spot-new k q) ∙ sym z)
+        go (inr q) = true≢false (sym (old-owned k q) ∙ ap (owned π v) (sym (spot-is k q) ∙ sym z) ∙ ok .room (needs π v f r) (omega arith) .1)
+
+    pub apart-pib : (k : ℕ) → present′ π v f r k ≡ true → π .s ≢ spot′ π v f r k
+    unfolding inside
+    apart-pib k p z = omega (arith, ltb-true (π .s) (spot′ π v f r k) (both-left _ _ (spot-in k p)))

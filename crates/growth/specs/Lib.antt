@@ -1,0 +1,15 @@
+pub mod Ready
+pub mod Path
+pub mod Lists
+pub mod Afterwards
+pub mod Neighbours
+pub mod Written
+pub mod Grown
+pub mod Before
+pub mod Done
+pub mod Decided
+pub mod Early
+pub mod Linked
+pub mod Sounds
+pub mod Fits
+pub mod Promise

@@ -1,0 +1,165 @@
+-- Link order after a write: what above, below and least find. Block r comes behind the old last block and a new pointer block before all others; every other block keeps its neighbours.
+use mathlib.Core.Path.{_≡_, refl, sym, ap, _∙_}
+use mathlib.Core.Logic.{_⊎_, inl, inr, _≢_}
+use mathlib.Core.Bool.{Bool, true, false, true≢false}
+use Prim.Native.Nat.{ℕ, zero, suc, _+_, _-_, _/_, _≤_, _<_}
+use native.Mathlib.Omega.{arith}
+use lib.Dec.{ltb}
+use borrow.Author.Tests.{ltb-true, ltb-false}
+use Rattle.image.specs.View.{View}
+use Rattle.volume.specs.Search.{seek, down, Least, Greatest, seek-least, down-greatest}
+use Rattle.volume.specs.Keys.{home, low, span}
+use Rattle.volume.specs.KeyLaws.{low-pos, span-end, first-pointer}
+use Rattle.volume.specs.Files.{Partition, len, present, above, below, least}
+use Rattle.volume.specs.Index.{present-low, present-high, present-pos, wf-of}
+use Rattle.volume.specs.Order.{Next, Prev, next-one, prev-one, above-is, below-is, least-is, least-present}
+use Rattle.volume.specs.Writes.{over, needs, isNew, len′, present′, above′, below′, least′}
+use Rattle.growth.specs.Ready.{Ready}
+use Rattle.growth.specs.Path.{over-zero, over-near, placed, needs-few, new-absent, new-not-home}
+use Rattle.growth.specs.Afterwards.{present-old, present-split, asked′, len-grown, len-short, range′, home-there}
+
+-- ---- a search over all numbers that may pass
+
+module _ (P : ℕ → Bool) (a e : ℕ) (pos : 0 < a) (inn : (i : ℕ) → P i ≡ true → (a ≤ i) × (i ≤ e)) where
+  out : (i : ℕ) → (P i ≡ true → ⊥) → P i ≡ false
+  out i n = go (P i) refl
+    where
+      go : (t : Bool) → P i ≡ t → t ≡ false
+      go true q = absurd (n q)
+      go false q = refl
+
+  pub seek-next : (k n : ℕ) → e < suc k + n → Next P k (seek n (suc k) P)
+  seek-next k n l = record { hit = λ m. (s .hit m .0, s .hit m .1 .0); none = λ i a m. at i a m (ltb e i) refl }
+    where
+      s : Least P (suc k) (suc k + n) (seek n (suc k) P)
+      s = seek-least n (suc k) P (omega arith)
+
+      at : (i : ℕ) → k < i → (seek n (suc k) P ≢ 0 → i < seek n (suc k) P) → (t : Bool) → ltb e i ≡ t → P i ≡ false
+      at i a m true q = out i (λ p. omega (arith, ltb-true e i q, inn i p .1))
+      at i a m false q = s .none i a (omega (arith, ltb-false e i q)) m
+
+  pub down-prev : (k : ℕ) → Prev P k (down a (k - a) P)
+  down-prev k = record { hit = λ m. (s .hit m .0, omega (arith, s .hit m .1)); none = λ i p l m. at i l m (ltb i a) refl }
+    where
+      s : Greatest P a (a + (k - a)) (down a (k - a) P)
+      s = down-greatest a (k - a) P pos
+
+      at : (i : ℕ) → i < k → (down a (k - a) P ≢ 0 → down a (k - a) P < i) → (t : Bool) → ltb i a ≡ t → P i ≡ false
+      at i l m true q = out i (λ p. omega (arith, ltb-true i a q, inn i p .0))
+      at i l m false q = let b = ltb-false i a q in s .none i b (omega arith) m
+
+module _ (π : Partition) (v : View) (f r : ℕ) (ok : Ready π v f r) where
+  abbrev P : ℕ → Bool
+  P = present′ π v f r
+
+  pos′ : 0 < low (len′ π v f r)
+  pos′ = low-pos (len′ π v f r) (len-short π v f r ok)
+
+  -- what above, below and least find afterwards
+  pub above′-is : (k : ℕ) → Next (present′ π v f r) k (above′ π v f r k)
+  unfolding above′
+  above′-is k = seek-next P (low (len′ π v f r)) (home + len′ π v f r) pos′ (range′ π v f r ok) k (home + len′ π v f r - k) (omega arith)
+
+  pub below′-is : (k : ℕ) → Prev (present′ π v f r) k (below′ π v f r k)
+  unfolding below′
+  below′-is k = down-prev P (low (len′ π v f r)) (home + len′ π v f r) pos′ (range′ π v f r ok) k
+
+  pub least′-is : Next (present′ π v f r) 0 (least′ π v f r)
+  unfolding least′
+  least′-is = record { hit = λ n. (s .hit n .0, omega (arith, s .hit n .1 .0, pos′)); none = λ i a m. at i m (P i) refl }
+    where
+      s : Least P (low (len′ π v f r)) (low (len′ π v f r) + span (len′ π v f r)) (seek (span (len′ π v f r)) (low (len′ π v f r)) P)
+      s = seek-least (span (len′ π v f r)) (low (len′ π v f r)) P pos′
+
+      at : (i : ℕ) → (seek (span (len′ π v f r)) (low (len′ π v f r)) P ≢ 0 → i < seek (span (len′ π v f r)) (low (len′ π v f r)) P) → (t : Bool) → P i ≡ t → t ≡ false
+      at i m false q = refl
+      at i m true q = let b = range′ π v f r ok i q in sym q ∙ s .none i (b .0) (omega (arith, b .1, span-end (len′ π v f r))) m
+
+  pub least′-there : (least′ π v f r ≢ 0) × (present′ π v f r (least′ π v f r) ≡ true)
+  least′-there = (ne, least′-is .hit ne .0)
+    where
+      ne : least′ π v f r ≢ 0
+      ne z = true≢false (sym (home-there π v f r) ∙ least′-is .none home (omega arith) (λ n. absurd (n z)))
+
+  -- ---- where the new keys stand
+
+  -- a new key is block r, or the pointer block over it
+  pub new-cases : (k : ℕ) → isNew π v f r k ≡ true → (k ≡ over r 0) ⊎ ((needs π v f r ≡ 2) × (k ≡ over r 1))
+  new-cases k h = go (placed π v f r ok k h .i) (placed π v f r ok k h .less) (placed π v f r ok k h .is)
+    where
+      go : (i : ℕ) → i < needs π v f r → k ≡ over r i → (k ≡ over r 0) ⊎ ((needs π v f r ≡ 2) × (k ≡ over r 1))
+      go zero l q = inl q
+      go (suc zero) l q = inr (omega (arith, needs-few π v f r ok), q)
+      go (suc (suc i)) l q = absurd (omega (arith, needs-few π v f r ok))
+
+  -- what was absent and is neither of them is absent
+  absent′ : (i : ℕ) → present π v f i ≡ false → i ≢ over r 0 → (needs π v f r ≡ 2 → i ≢ over r 1) → present′ π v f r i ≡ false
+  absent′ i h a b = go (P i) refl
+    where
+      on : (isNew π v f r i ≡ true) ⊎ (present π v f i ≡ true) → ⊥
+      on (inr x) = true≢false (sym x ∙ h)
+      on (inl x) = no (new-cases i x)
+        where
+          no : (i ≡ over r 0) ⊎ ((needs π v f r ≡ 2) × (i ≡ over r 1)) → ⊥
+          no (inl y) = a y
+          no (inr y) = b (y .0) (y .1)
+
+      go : (t : Bool) → P i ≡ t → t ≡ false
+      go true q = absurd (on (present-split π v f r i q))
+      go false q = refl
+
+  -- block r stands above all others
+  pub last-new : (k : ℕ) → present π v f k ≡ true → k < over r 0
+  last-new k p = omega (arith, present-high π v f k p, over-zero r, ok .next)
+
+  -- the new pointer block stands below all others
+  pub first-new : needs π v f r ≡ 2 → (k : ℕ) → present′ π v f r k ≡ true → k ≢ over r 1 → over r 1 < k
+  first-new n k p ne = go (ltb 288 k) refl
+    where
+      is : over r 1 ≡ 288 - (r - 64) / 128
+      is = over-near r (ok .far) (new-not-home π v f r ok 1 (omega arith)) .1 .0
+
+      go : (t : Bool) → ltb 288 k ≡ t → over r 1 < k
+      go true q = omega (arith, is, ltb-true 288 k q)
+      go false q =
+          let l = ltb-false 288 k q in
+          omega (arith, is, ne, first-pointer k l, asked′ π v f r ok k (λ z. omega arith) p, len-grown π v f r ok)
+
+  pub first-old : needs π v f r ≡ 2 → (k : ℕ) → present π v f k ≡ true → over r 1 < k
+  first-old n k p = first-new n k (present-old π v f r k p) (λ z. true≢false (sym p ∙ ap (present π v f) z ∙ new-absent π v f r ok 1 (omega arith)))
+
+  -- ---- the neighbours
+
+  end-there : present π v f (home + len π v f) ≡ true
+  end-there = wf-of π v f (ok .formed) .ends
+
+  low-there : (least π v f ≢ 0) × (present π v f (least π v f) ≡ true)
+  low-there = least-present π v f (ok .formed)
+
+  -- every other block keeps its neighbours
+  pub above-kept : (k : ℕ) → present π v f k ≡ true → k ≢ home + len π v f → above′ π v f r k ≡ above π v f k
+  above-kept k p ne = next-one P k _ (above π v f k) (above′-is k) (record {
+    hit = λ n. (present-old π v f r _ (a .hit n .0), a .hit n .1);
+    none = λ i l m. absent′ i (a .none i l m) (λ y. omega (arith, m some, last-new (above π v f k) (a .hit some .0))) (λ n y. omega (arith, first-old n k p));
+  })
+    where
+      a : Next (present π v f) k (above π v f k)
+      a = above-is π v f (ok .formed) k (present-high π v f k p)
+
+      some : above π v f k ≢ 0
+      some z = true≢false (sym end-there ∙ a .none _ (omega (arith, present-high π v f k p)) (λ n. absurd (n z)))
+
+  pub below-kept : (k : ℕ) → present π v f k ≡ true → (needs π v f r ≡ 2 → k ≢ least π v f) → below′ π v f r k ≡ below π v f k
+  below-kept k p ne = prev-one P k _ (below π v f k) (below′-is k) (record {
+    hit = λ n. (present-old π v f r _ (a .hit n .0), a .hit n .1);
+    none = λ i z l m. absent′ i (a .none i z l m) (λ y. omega (arith, last-new k p)) (λ n y. ne n (sym (first-one (λ b. omega (arith, m b, first-old n (below π v f k) (a .hit b .0))))));
+  })
+    where
+      a : Prev (present π v f) k (below π v f k)
+      a = below-is π v f (ok .formed) k (present-low π v f k p)
+
+      k-pos : 0 < k
+      k-pos = present-pos π v f (ok .cand) (ok .formed) k p
+
+      first-one : (below π v f k ≢ 0 → ⊥) → least π v f ≡ k
+      first-one n = next-one (present π v f) 0 _ k (least-is π v f (ok .formed)) (record { hit = λ _. (p, k-pos); none = λ j b c. a .none j b (c (λ w. omega (arith, k-pos))) (λ x. absurd (n x)) })

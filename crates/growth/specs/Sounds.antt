@@ -1,0 +1,179 @@
+-- After all stores of a write on a sound partition the partition is sound: the file is linked, the others are as they were, and the free chain is without the blocks taken.
+use mathlib.Core.Path.{_≡_, refl, sym, ap, _∙_, subst}
+use mathlib.Core.Logic.{_⊎_, inl, inr, _≢_}
+use mathlib.Core.List.{List}
+use mathlib.Core.Bool.{Bool, true, false, true≢false}
+use Prim.Native.Nat.{ℕ, _≤_, _<_}
+use native.Mathlib.Omega.{arith}
+use lib.Dec.{eqb}
+use lib.ListN.{length}
+use borrow.Author.Tests.{ltb-true, eqb-true, eqb-false}
+use Rattle.base.specs.Laws.{both-left}
+use Rattle.image.specs.View.{View, Rec}
+use Rattle.volume.specs.Files.{Partition, inside, candidate, wellFormed, spot, present, fileOf, key, owned, free, sound}
+use Rattle.volume.specs.Index.{spot-home, present-home, own, file-candidate, member-owned, file-back, owned-in}
+use Rattle.volume.specs.Frame.{SameHead, Clean, kept-present, kept-spot}
+use Rattle.volume.specs.Plans.{freeAt}
+use Rattle.volume.specs.Writes.{over, needs, isNew, fresh, present′, spot′}
+use Rattle.frame.specs.Soft.{headed-is, headed-same}
+use Rattle.frame.specs.Turn.{Turn, turn-clean}
+use Rattle.frame.specs.Sound.{sound-clean, sound-linked}
+use Rattle.frame.specs.FreeChain.{Links, links-of, links-kept, sound-of}
+use Rattle.frame.specs.Drawn.{Taken, Drawn, left, drawn-free}
+use Rattle.growth.specs.Ready.{Tails, Ready, sound-tails}
+use Rattle.growth.specs.Path.{placed, new-at, fresh-at, fresh-free}
+use Rattle.growth.specs.Afterwards.{present-new, present-old, present-split, spot-new, old-owned, spot-is}
+use Rattle.growth.specs.Written.{Written, written-present, written-spot, written-formed}
+use Rattle.growth.specs.Before.{Order}
+use Rattle.growth.specs.Done.{Done, done-written}
+use Rattle.growth.specs.Linked.{file-links}
+use Rattle.growth.specs.Decided.{whole, done-whole, turn-whole, other-block, pib-rec, first-rec}
+
+module _ (π : Partition) (v : View) (f r : ℕ) (dat : Rec) (ok : Ready π v f r) (so : sound π v ≡ true) (room : needs π v f r < length (free π v)) (fr : List ℕ) (od : Order π v f r dat ok fr) where
+  abbrev W : View
+  W = whole π v f r dat ok fr od
+
+  c : Clean π v
+  c = sound-clean π v so
+
+  tails : Tails π v f
+  tails = sound-tails π v f so (ok .cand)
+
+  d : Done π v f r dat ok W
+  d = done-whole π v f r dat ok fr od
+
+  w : Written π v f r W
+  w = done-written π v f r dat ok W d
+
+  turn : Turn π v W f
+  turn = turn-whole π v f r dat ok fr od c
+
+  wf : wellFormed π W f ≡ true
+  wf = written-formed π v f r ok tails W w
+
+  there : (k : ℕ) → present π W f k ≡ present′ π v f r k
+  there = written-present π v f r ok tails W w
+
+  where-is : (k : ℕ) → present′ π v f r k ≡ true → spot π W f k ≡ spot′ π v f r k
+  where-is = written-spot π v f r ok tails W w
+
+  clean : Clean π W
+  clean = turn-clean π v c W f turn (λ _. wf)
+
+  -- the FIB keeps its header
+  pub still-candidate : candidate π W f ≡ true
+  still-candidate = sym (headed-is π v f ∙ headed-same π f (subst (λ (b : ℕ). SameHead (v b) (W b)) (spot-home π v f) (w .old _ (present-home π v f))) ∙ sym (headed-is π W f)) ∙ ok .cand
+
+  -- ---- what is owned afterwards
+
+  owned-old : (b : ℕ) → owned π v b ≡ true → owned π W b ≡ true
+  owned-old b h = go (eqb (fileOf π v b) f) refl
+    where
+      go : (t : Bool) → eqb (fileOf π v b) f ≡ t → owned π W b ≡ true
+      go true q =
+          let o = own π v b h in
+          let z = eqb-true (fileOf π v b) f q in
+          let p = subst (λ (x : ℕ). present π v x (key π v b) ≡ true) z (o .here) in
+          let p′ = present-old π v f r (key π v b) p in
+          subst (λ (x : ℕ). owned π W x ≡ true) (where-is _ p′ ∙ spot-is π v f r ok _ p ∙ ap (λ (x : ℕ). spot π v x (key π v b)) (sym z) ∙ o .back)
+          (member-owned π W f still-candidate wf (key π v b) (there _ ∙ p′))
+      go false q =
+          let o = own π v b h in
+          let n = eqb-false (fileOf π v b) f q in
+          let cg = file-candidate π v _ (o .file) in
+          let s = turn .others _ n cg .shape in
+          let cw = sym (turn .cands _ n) ∙ cg in
+          subst (λ (x : ℕ). owned π W x ≡ true) (sym (kept-spot π v W _ s _ (o .here)) ∙ o .back)
+          (member-owned π W _ cw (clean _ cw) (key π v b) (sym (kept-present π v W _ s _) ∙ o .here))
+
+  owned-new : (k : ℕ) → isNew π v f r k ≡ true → owned π W (fresh π v f r k) ≡ true
+  owned-new k h =
+      let p = present-new π v f r k h in
+      subst (λ (x : ℕ). owned π W x ≡ true) (where-is k p ∙ spot-new π v f r k h) (member-owned π W f still-candidate wf k (there k ∙ p))
+
+  owned-back : (b : ℕ) → owned π W b ≡ true → (owned π v b ≡ true) ⊎ Taken π v so (needs π v f r) room b
+  owned-back b h = go (eqb (fileOf π W b) f) refl
+    where
+      go : (t : Bool) → eqb (fileOf π W b) f ≡ t → (owned π v b ≡ true) ⊎ Taken π v so (needs π v f r) room b
+      go true q = on (present-split π v f r (key π W b) p′)
+        where
+          z : fileOf π W b ≡ f
+          z = eqb-true (fileOf π W b) f q
+
+          p′ : present′ π v f r (key π W b) ≡ true
+          p′ = sym (there _) ∙ subst (λ (x : ℕ). present π W x (key π W b) ≡ true) z (own π W b h .here)
+
+          is : spot′ π v f r (key π W b) ≡ b
+          is = sym (where-is _ p′) ∙ ap (λ (x : ℕ). spot π W x (key π W b)) (sym z) ∙ own π W b h .back
+
+          on : (isNew π v f r (key π W b) ≡ true) ⊎ (present π v f (key π W b) ≡ true) → (owned π v b ≡ true) ⊎ Taken π v so (needs π v f r) room b
+          on (inl n) =
+              let x = placed π v f r ok (key π W b) n in
+              inr (record { i = x .i; less = x .less; is = sym is ∙ spot-new π v f r _ n ∙ ap (fresh π v f r) (x .is) ∙ fresh-at π v f r ok (x .i) (x .less) })
+          on (inr n) = inl (subst (λ (x : ℕ). owned π v x ≡ true) (sym (spot-is π v f r ok _ n) ∙ is) (old-owned π v f r ok _ n))
+      go false q =
+          let o = own π W b h in
+          let n = eqb-false (fileOf π W b) f q in
+          let cg = turn .cands _ n ∙ file-candidate π W _ (o .file) in
+          let s = turn .others _ n cg .shape in
+          let p = kept-present π v W _ s (key π W b) ∙ o .here in
+          inl (subst (λ (x : ℕ). owned π v x ≡ true) (kept-spot π v W _ s _ p ∙ o .back) (member-owned π v _ cg (c _ cg) (key π W b) p))
+
+  -- ---- the free chain afterwards
+
+  not-pib : (b : ℕ) → inside π b ≡ true → π .s ≢ b
+  unfolding inside
+  not-pib b i z = omega (arith, ltb-true (π .s) b (both-left _ _ i))
+
+  drawn : Drawn π v so (needs π v f r) room W
+  drawn = record {
+    first = first-rec π v f r dat ok fr od;
+    pib = pib-rec π v f r dat ok fr od;
+    kept = λ b i o n. other-block π v f r dat ok fr od b (apart b o n) (n (needs π v f r) (omega arith)) (not-pib b i);
+    old = owned-old;
+    new = λ i l. ap (owned π W) (sym (fresh-at π v f r ok i l)) ∙ owned-new (over r i) (new-at π v f r ok i l);
+    back = owned-back;
+  }
+    where
+      apart : (b : ℕ) → owned π v b ≡ false → ((i : ℕ) → i ≤ needs π v f r → freeAt π v i ≢ b) → (k : ℕ) → present′ π v f r k ≡ true → spot′ π v f r k ≢ b
+      apart b o n k p z = go (present-split π v f r k p)
+        where
+          go : (isNew π v f r k ≡ true) ⊎ (present π v f k ≡ true) → ⊥
+          go (inl h) =
+              let x = placed π v f r ok k h in
+              n (x .i) (omega (arith, x .less)) (sym (fresh-at π v f r ok (x .i) (x .less)) ∙ ap (fresh π v f r) (sym (x .is)) ∙ sym (spot-new π v f r k h) ∙ z)
+          go (inr h) = true≢false (sym (old-owned π v f r ok k h) ∙ ap (owned π v) (sym (spot-is π v f r ok k h) ∙ z) ∙ o)
+
+  -- ---- every file
+
+  links : (h : ℕ) → candidate π W h ≡ true → Links π W h
+  links h ch = go (eqb h f) refl
+    where
+      go : (t : Bool) → eqb h f ≡ t → Links π W h
+      go true q = subst (Links π W) (sym (eqb-true h f q)) (file-links π v f r dat ok tails W d (links-of π v f (sound-linked π v so f (ok .cand))))
+      go false q = links-kept π v W h (c h cv) (turn .others h ne cv .shape) same (links-of π v h (sound-linked π v so h cv))
+        where
+          ne : h ≢ f
+          ne = eqb-false h f q
+
+          cv : candidate π v h ≡ true
+          cv = turn .cands h ne ∙ ch
+
+          same : (k : ℕ) → present π v h k ≡ true → W (spot π v h k) ≡ v (spot π v h k)
+          same k p = other-block π v f r dat ok fr od (spot π v h k) apart (λ z. free-one (freeAt π v (needs π v f r)) z (ok .room (needs π v f r) (omega arith) .1)) (not-pib _ (owned-in π v _ mine))
+            where
+              mine : owned π v (spot π v h k) ≡ true
+              mine = member-owned π v h cv (c h cv) k p
+
+              free-one : (b : ℕ) → b ≡ spot π v h k → owned π v b ≡ false → ⊥
+              free-one b z x = true≢false (sym mine ∙ ap (owned π v) (sym z) ∙ x)
+
+              apart : (j : ℕ) → present′ π v f r j ≡ true → spot′ π v f r j ≢ spot π v h k
+              apart j a z = on (present-split π v f r j a)
+                where
+                  on : (isNew π v f r j ≡ true) ⊎ (present π v f j ≡ true) → ⊥
+                  on (inl x) = free-one (fresh π v f r j) (sym (spot-new π v f r j x) ∙ z) (fresh-free π v f r ok j x)
+                  on (inr x) = ne (sym (file-back π v h cv (c h cv) k p) ∙ ap (fileOf π v) (sym z ∙ spot-is π v f r ok j x) ∙ file-back π v f (ok .cand) (ok .formed) j x)
+
+  pub sound-whole : π .s < π .e → sound π (whole π v f r dat ok fr od) ≡ true
+  sound-whole l = sound-of π W (left π v so (needs π v f r) room) l (drawn-free π v so (needs π v f r) room W drawn) clean links

@@ -1,0 +1,283 @@
+-- The closed form of well formed, for a file without holes and with one level of pointer blocks: what one pass over the index decides.
+use mathlib.Core.Path.{_≡_, refl, sym, ap, _∙_, subst}
+use mathlib.Core.Logic.{_⊎_, inl, inr, _≢_}
+use mathlib.Core.List.{[], _∷_}
+use mathlib.Core.Bool.{Bool, true, false, _||_}
+use Prim.Native.Nat.{ℕ, zero, suc, _+_, _-_, _*_, _≤_, _<_}
+use native.Mathlib.Omega.{arith}
+use lib.Dec.{leb, ltb, eqb}
+use borrow.Author.Tests.{ltb-true, ltb-false, eqb-true, eqb-false, lt-ltb, le-ltb, eq-eqb, le-leb, leb-true}
+use Rattle.base.specs.Tests.{both, every, all}
+use Rattle.base.specs.Laws.{all-at, all-of, both-left, both-right, both-of, every-at, iff-eq}
+use Rattle.drive.specs.Address.{pda, lda, ldaBlock}
+use Rattle.drive.specs.Laws.{lda-pos}
+use Rattle.image.specs.View.{View, pair}
+use Rattle.volume.specs.Words.{relativeAt, directAt, indirectAt, doubleAt, inUseAt, lastAddressAt, lowNumberAt, lowAddressAt}
+use Rattle.volume.specs.Search.{seek}
+use Rattle.volume.specs.Keys.{home, reach, number, up, slot, first, low, span}
+use Rattle.volume.specs.KeyLaws.{key-ind, first-up, first-data, first-doubles, low-home, low-pos, asked-low, span-end, fib-keys, last-asked, asked-closed, closed-ptr, row-direct, row-ptr, row-double}
+use Rattle.volume.specs.Files.{Partition, inside, isLda, serial, len, spot, present, entry, named, least, size, tally, wellFormed}
+use Rattle.volume.specs.Index.{WF, Member, wf-of, of-wf, or-at, or-of, here-of, of-here, present-home, present-low, present-high}
+use Rattle.volume.specs.Steps.{every-cons, every-nil}
+use Rattle.volume.specs.Order.{count-window}
+use Rattle.volume.specs.Closed.{hasKey, sizeOf, first-key, count-keys, least-closed, size-closed}
+
+-- of the entries from word w of block f on, entry i is one of the first k, or nil
+abbrev pub nilFrom : View → ℕ → ℕ → ℕ → ℕ → Bool
+nilFrom v f w k i = ltb i k || eqb (pair v f (w + 2 * i)) 0
+
+-- the FIB's entries that n blocks do not need are nil
+unfoldable pub nilsGood : View → ℕ → ℕ → Bool
+nilsGood v f n =
+    every (all 64 (nilFrom v f (directAt 0) n)
+    ∷ all 32 (nilFrom v f (indirectAt 0) (289 - low n))
+    ∷ eqb (pair v f doubleAt) 0
+    ∷ eqb (pair v f (doubleAt + 2)) 0
+    ∷ [])
+
+module _ (π : Partition) (v : View) (f : ℕ) where
+  -- the LDA x is that of a block of s+1..e with the serial PDA(f) and the relative number rel
+  unfoldable pub names : ℕ → ℕ → Bool
+  names x rel =
+      let b = ldaBlock (π .drive) x in
+      every (isLda (π .drive) x b ∷ inside π b ∷ eqb (serial π v b) (pda (π .drive) f) ∷ eqb (v b relativeAt) rel ∷ [])
+
+  -- pointer block -(4+j) is named well; block r is
+  abbrev pub pointerTest : ℕ → Bool
+  pointerTest j = named π v f (288 - j)
+
+  abbrev pub dataTest : ℕ → Bool
+  dataTest r = named π v f (292 + r)
+
+  -- n blocks and the pointer blocks that they need are named well
+  unfoldable pub indexGood : ℕ → Bool
+  indexGood n = both (all (289 - low n) pointerTest) (all n dataTest)
+
+  -- blocks in use, last address, last negative number and its address are those of n blocks
+  unfoldable pub numbersGood : ℕ → Bool
+  numbersGood n =
+      every (eqb (v f inUseAt) (sizeOf n)
+      ∷ isLda (π .drive) (pair v f lastAddressAt) (spot π v f (home + n))
+      ∷ eqb (v f lowNumberAt) (number (low n))
+      ∷ isLda (π .drive) (pair v f lowAddressAt) (spot π v f (low n))
+      ∷ [])
+
+  -- L is within reach, and the index, its unused entries and the numbers are those of L + 1 blocks
+  unfoldable pub formGood : Bool
+  formGood = let n = len π v f in every (leb n reach ∷ indexGood n ∷ nilsGood v f n ∷ numbersGood n ∷ [])
+
+-- ---- the tests, one by one
+
+module _ (π : Partition) (v : View) (f n : ℕ) where
+  index-ptr : indexGood π v f n ≡ true → (k : ℕ) → low n ≤ k → k < 289 → named π v f k ≡ true
+  unfolding indexGood
+  index-ptr h k a b =
+      let z : 288 - (288 - k) ≡ k = omega arith in
+      subst (λ (x : ℕ). named π v f x ≡ true) z (all-at _ _ (both-left _ _ h) (288 - k) (omega arith))
+
+  index-data : indexGood π v f n ≡ true → (k : ℕ) → home < k → k ≤ home + n → named π v f k ≡ true
+  unfolding indexGood
+  index-data h k a b =
+      let z : 292 + (k - 292) ≡ k = omega arith in
+      subst (λ (x : ℕ). named π v f x ≡ true) z (all-at _ _ (both-right _ _ h) (k - 292) (omega arith))
+
+-- an entry of the FIB that n blocks do not ask for is nil
+module _ (v : View) (f n : ℕ) (h : nilsGood v f n ≡ true) where
+  nil-direct : (r : ℕ) → r < 64 → n ≤ r → pair v f (60 + 2 * r) ≡ 0
+  unfolding nilsGood
+  nil-direct r l m = eqb-true _ _ (or-at (ltb r n) _ (all-at 64 _ (every-at _ h 0) r l) (le-ltb r n m))
+
+  nil-pointer : (j : ℕ) → j < 32 → 289 - low n ≤ j → pair v f (188 + 2 * j) ≡ 0
+  unfolding nilsGood
+  nil-pointer j l m = eqb-true _ _ (or-at (ltb j (289 - low n)) _ (all-at 32 _ (every-at _ h 1) j l) (le-ltb j (289 - low n) m))
+
+  nil-double : (i : ℕ) → i < 2 → pair v f (252 + 2 * i) ≡ 0
+  unfolding nilsGood
+  nil-double zero l = eqb-true _ _ (every-at _ h 2)
+  nil-double (suc zero) l = eqb-true _ _ (every-at _ h 3)
+  nil-double (suc (suc i)) l = absurd (omega arith)
+
+  nil-entry : (k : ℕ) → k ≢ home → up k ≡ home → n ≤ first k → pair v f (slot k) ≡ 0
+  nil-entry k ne q l = go (ltb home k) refl (ltb 288 k) refl
+    where
+      r : (257 ≤ k) × (k < 356)
+      r = fib-keys k ne q
+
+      go : (t : Bool) → ltb home k ≡ t → (u : Bool) → ltb 288 k ≡ u → pair v f (slot k) ≡ 0
+      go true a u b =
+          let m = ltb-true home k a in
+          let z : 292 + (k - 292) ≡ k = omega arith in
+          let w = row-direct (k - 292) (omega (arith, r .1)) .1 in
+          ap (pair v f) (ap slot (sym z) ∙ w) ∙ nil-direct (k - 292) (omega (arith, r .1)) (omega (arith, first-data k m))
+      go false a true b =
+          let m = ltb-true 288 k b in
+          let o : k < 291 = omega (arith, ltb-false home k a, ne) in
+          let z : 290 - (290 - k) ≡ k = omega arith in
+          ap (pair v f) (ap slot (sym z) ∙ row-double (290 - k) (omega arith) .1) ∙ nil-double (290 - k) (omega arith)
+      go false a false b =
+          let m = ltb-false 288 k b in
+          let z : 288 - (288 - k) ≡ k = omega arith in
+          ap (pair v f) (ap slot (sym z) ∙ row-ptr (288 - k) (omega (arith, r .0)) .1) ∙ nil-pointer (288 - k) (omega (arith, r .0)) (far (ltb k (low n)) refl)
+        where
+          far : (t : Bool) → ltb k (low n) ≡ t → 289 - low n ≤ 288 - k
+          far true c = omega (arith, ltb-true k (low n) c, ltb-false 288 k b)
+          far false c = absurd (omega (arith, closed-ptr n k (ltb-false k (low n) c) (omega (arith, ltb-false 288 k b))))
+
+-- ---- well formed is these tests
+
+-- a search whose first number passes
+seek-here : (n k : ℕ) (P : ℕ → Bool) → 0 < n → P k ≡ true → seek n k P ≡ k
+unfolding seek
+seek-here zero k P l h = absurd (omega arith)
+seek-here (suc n) k P l h = ap (λ (t : Bool). elim t [ true ↦ k | false ↦ seek n (suc k) P ]) h
+
+module _ (π : Partition) (v : View) (f : ℕ) where
+  -- what is named well: its address, its header, and that it has an entry
+  named-lda : (k : ℕ) → named π v f k ≡ true → isLda (π .drive) (entry π v f k) (spot π v f k) ≡ true
+  unfolding named
+  named-lda k h = every-at _ h 0
+
+  pub named-member : (k : ℕ) → named π v f k ≡ true → Member π v f (spot π v f k) k
+  unfolding named
+  named-member k h = record { ins = every-at _ h 1; ser = eqb-true _ _ (every-at _ h 2); num = eqb-true _ _ (every-at _ h 3) }
+
+  named-said : (k : ℕ) → named π v f k ≡ true → entry π v f k ≢ 0
+  unfolding isLda
+  named-said k h z =
+      let a : entry π v f k ≡ lda (π .drive) (spot π v f k) = eqb-true _ _ (named-lda k h) in
+      omega (arith, lda-pos (π .drive) (spot π v f k))
+
+  module _ (short : len π v f ≤ reach) (good : indexGood π v f (len π v f) ≡ true) where
+    pub asked-named : (k : ℕ) → k ≢ home → first k < len π v f → named π v f k ≡ true
+    asked-named k n l = at (asked-closed (len π v f) k short l)
+      where
+        at : ((low (len π v f) ≤ k) × (k < 289)) ⊎ ((home ≤ k) × (k < 292 + len π v f)) → named π v f k ≡ true
+        at (inl x) = index-ptr π v f (len π v f) good k (x .0) (x .1)
+        at (inr x) = index-data π v f (len π v f) good k (omega (arith, x .0)) (omega (arith, x .1))
+
+    -- every key that L asks for is present, and no other but the FIB's
+    asked-present : (k : ℕ) → first k < len π v f → present π v f k ≡ true
+    asked-present = key-ind (λ k. first k < len π v f → present π v f k ≡ true) (λ l. present-home π v f)
+        (λ k n ih l. of-here π v f k n (record { asked = l; held = ih (omega (arith, first-up k n)); said = named-said k (asked-named k n l) }))
+
+    has-key : (k : ℕ) → present π v f k ≡ hasKey (len π v f) k
+    has-key k = iff-eq _ _ (λ h. or-of (eqb k home) _ (λ q. lt-ltb _ _ (here-of π v f k (eqb-false k home q) h .asked))) (λ h. go (eqb k home) refl h)
+      where
+        go : (t : Bool) → eqb k home ≡ t → (t || ltb (first k) (len π v f)) ≡ true → present π v f k ≡ true
+        go true q h = ap (present π v f) (eqb-true k home q) ∙ present-home π v f
+        go false q h = asked-present k (ltb-true _ _ h)
+
+    pub low-here : present π v f (low (len π v f)) ≡ true
+    low-here = first-key (len π v f) short (present π v f) has-key .hit (λ z. omega (arith, low-pos (len π v f) short)) .0
+
+    found-least : least π v f ≡ low (len π v f)
+    unfolding least
+    found-least = seek-here (span (len π v f)) (low (len π v f)) (present π v f) (omega (arith, span-end (len π v f), low-home (len π v f))) low-here
+
+    found-size : size π v f ≡ sizeOf (len π v f)
+    unfolding size
+    found-size =
+        count-window (present π v f) (low (len π v f)) (span (len π v f)) (292 + len π v f)
+        (λ i p. (present-low π v f i p, omega (arith, present-high π v f i p, span-end (len π v f)))) (omega (arith, span-end (len π v f)))
+        ∙ count-keys (len π v f) short (present π v f) has-key
+
+    pub ends : present π v f (home + len π v f) ≡ true
+    ends = go (ltb 0 (len π v f)) refl
+      where
+        go : (t : Bool) → ltb 0 (len π v f) ≡ t → present π v f (home + len π v f) ≡ true
+        go true q = asked-present (home + len π v f) (last-asked (len π v f) (ltb-true _ _ q))
+        go false q = ap (present π v f) (let z : home + len π v f ≡ home = omega (arith, ltb-false 0 (len π v f) q) in z) ∙ present-home π v f
+
+    numbers-tally : numbersGood π v f (len π v f) ≡ true → tally π v f ≡ true
+    unfolding numbersGood tally
+    numbers-tally h =
+        every-cons _ (ap (eqb (v f inUseAt)) found-size ∙ every-at _ h 0)
+        (every-cons _ (ap (λ (k : ℕ). eqb (v f lowNumberAt) (number k)) found-least ∙ every-at _ h 2)
+        (every-cons _ (ap (λ (k : ℕ). isLda (π .drive) (pair v f lowAddressAt) (spot π v f k)) found-least ∙ every-at _ h 3) every-nil))
+
+    numbers-last : numbersGood π v f (len π v f) ≡ true → isLda (π .drive) (pair v f lastAddressAt) (spot π v f (home + len π v f)) ≡ true
+    unfolding numbersGood
+    numbers-last h = every-at _ h 1
+
+  form-formed : formGood π v f ≡ true → wellFormed π v f ≡ true
+  unfolding formGood
+  form-formed h = of-wf π v f (record {
+    short = short;
+    good = λ k n p. named-lda k (named-here k n p);
+    mine = λ k n p. named-member k (named-here k n p);
+    nil = nil-entry v f (len π v f) (every-at _ h 2);
+    ends = ends short good;
+    last = numbers-last short good (every-at _ h 3);
+    full = asked-present short good;
+    tallied = numbers-tally short good (every-at _ h 3);
+  })
+    where
+      short : len π v f ≤ reach
+      short = leb-true _ _ (every-at _ h 0)
+
+      good : indexGood π v f (len π v f) ≡ true
+      good = every-at _ h 1
+
+      named-here : (k : ℕ) → k ≢ home → present π v f k ≡ true → named π v f k ≡ true
+      named-here k n p = asked-named short good k n (here-of π v f k n p .asked)
+
+  module _ (h : wellFormed π v f ≡ true) where
+    w : WF π v f
+    w = wf-of π v f h
+
+    here-named : (k : ℕ) → k ≢ home → present π v f k ≡ true → named π v f k ≡ true
+    unfolding named
+    here-named k n p =
+        let m = w .mine k n p in
+        every-cons _ (w .good k n p) (every-cons _ (m .ins) (every-cons _ (eq-eqb _ _ (m .ser)) (every-cons _ (eq-eqb _ _ (m .num)) every-nil)))
+
+    pub formed-index : indexGood π v f (len π v f) ≡ true
+    unfolding indexGood
+    formed-index =
+        both-of
+        (all-of _ _ (λ j l. here-named (288 - j) (λ z. omega arith) (w .full (288 - j) (closed-ptr (len π v f) (288 - j) (omega arith) (omega arith)))))
+        (all-of _ _ (λ r l. here-named (292 + r) (λ z. omega arith) (w .full (292 + r) (omega (arith, first-data (292 + r) (omega arith))))))
+
+    spare-pointer : (j : ℕ) → 289 - low (len π v f) ≤ j → j < 32 → len π v f ≤ first (288 - j)
+    spare-pointer j a b = go (ltb (first (288 - j)) (len π v f)) refl
+      where
+        go : (t : Bool) → ltb (first (288 - j)) (len π v f) ≡ t → len π v f ≤ first (288 - j)
+        go true q = absurd (omega (arith, asked-low (288 - j) (len π v f) (ltb-true _ _ q)))
+        go false q = ltb-false _ _ q
+
+    formed-nils : nilsGood v f (len π v f) ≡ true
+    unfolding nilsGood
+    formed-nils =
+        every-cons _ (all-of 64 _ (λ r l. or-of (ltb r (len π v f)) _ (λ q. eq-eqb _ _ (direct r l (ltb-false r _ q)))))
+        (every-cons _ (all-of 32 _ (λ j l. or-of (ltb j (289 - low (len π v f))) _ (λ q. eq-eqb _ _ (pointer j l (ltb-false j _ q)))))
+        (every-cons _ (eq-eqb _ _ (double 0 (omega arith))) (every-cons _ (eq-eqb _ _ (double 1 (omega arith))) every-nil)))
+      where
+        direct : (r : ℕ) → r < 64 → len π v f ≤ r → pair v f (60 + 2 * r) ≡ 0
+        direct r l m =
+            let x = row-direct r l in
+            ap (pair v f) (sym (x .1)) ∙ w .nil (292 + r) (λ z. omega arith) (x .0) (omega (arith, first-data (292 + r) (omega arith)))
+
+        pointer : (j : ℕ) → j < 32 → 289 - low (len π v f) ≤ j → pair v f (188 + 2 * j) ≡ 0
+        pointer j l m =
+            let x = row-ptr j l in
+            ap (pair v f) (sym (x .1)) ∙ w .nil (288 - j) (λ z. omega arith) (x .0) (spare-pointer j m l)
+
+        double : (i : ℕ) → i < 2 → pair v f (252 + 2 * i) ≡ 0
+        double i l =
+            let x = row-double i l in
+            ap (pair v f) (sym (x .1)) ∙ w .nil (290 - i) (λ z. omega arith) (x .0) (omega (arith, w .short, first-doubles (290 - i) (omega arith) (omega arith)))
+
+    tally-numbers : tally π v f ≡ true → numbersGood π v f (len π v f) ≡ true
+    unfolding numbersGood tally
+    tally-numbers t =
+        every-cons _ (ap (eqb (v f inUseAt)) (sym (size-closed π v f h)) ∙ every-at _ t 0)
+        (every-cons _ (w .last)
+        (every-cons _ (ap (λ (k : ℕ). eqb (v f lowNumberAt) (number k)) (sym (least-closed π v f h)) ∙ every-at _ t 1)
+        (every-cons _ (ap (λ (k : ℕ). isLda (π .drive) (pair v f lowAddressAt) (spot π v f k)) (sym (least-closed π v f h)) ∙ every-at _ t 2) every-nil)))
+
+    formed-form : formGood π v f ≡ true
+    unfolding formGood
+    formed-form = every-cons _ (le-leb _ _ (w .short)) (every-cons _ formed-index (every-cons _ formed-nils (every-cons _ (tally-numbers (w .tallied)) every-nil)))
+
+  pub form-closed : wellFormed π v f ≡ formGood π v f
+  form-closed = iff-eq _ _ formed-form form-formed
