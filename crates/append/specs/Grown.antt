@@ -15,7 +15,7 @@ use Rattle.volume.specs.Files.{Partition, wellFormed, len, spot, present}
 use Rattle.volume.specs.Index.{present-home}
 use Rattle.volume.specs.Closed.{hasKey, nextKey, prevKey, sizeOf, present-closed}
 use Rattle.volume.specs.Plans.{freeAt}
-use Rattle.volume.specs.Writes.{over, needs, newly, isNew, fresh, len′, present′, spot′, above′, below′, least′, size′}
+use Rattle.volume.specs.Writes.{over, needs, newly, isNew, fresh, present′, spot′, above′, below′, least′, size′}
 use Rattle.append.specs.Links.{key-range, next-sought, prev-sought, first-sought, count-sought}
 use Rattle.append.specs.Numbers.{grows, low-few, low-many, grows-at, stays-at, over-zero, over-fib, over-pointer, over-two}
 
@@ -133,8 +133,7 @@ module _ (π : Partition) (v : View) (f n : ℕ) (wf : wellFormed π v f ≡ tru
 
   -- ---- what is present, and the link order
 
-  len-is : len′ π v f n ≡ n + 1
-  unfolding len′
+  len-is : suc n ≡ n + 1
   len-is = omega arith
 
   -- a key that is asked for by block n alone is new

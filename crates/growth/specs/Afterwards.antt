@@ -14,7 +14,7 @@ use Rattle.volume.specs.KeyLaws.{asked-low, asked-high, low-home, first-data, f
 use Rattle.volume.specs.Files.{Partition, inside, len, spot, present, key, owned}
 use Rattle.volume.specs.Index.{here-of, spot-home, present-home, wf-of, member, member-owned, key-back}
 use Rattle.volume.specs.Plans.{freeAt}
-use Rattle.volume.specs.Writes.{over, needs, isNew, fresh, len′, present′, spot′}
+use Rattle.volume.specs.Writes.{over, needs, isNew, fresh, present′, spot′}
 use Rattle.growth.specs.Ready.{Ready}
 use Rattle.growth.specs.Path.{or-left, or-right, or-split, over-zero, over-data, placed, needs-some, needs-more, new-at, new-gone, new-first, fresh-at, fresh-in, fresh-free, fresh-one}
 
@@ -51,48 +51,41 @@ module _ (π : Partition) (v : View) (f r : ℕ) where
   module _ (ok : Ready π v f r) where
     -- ---- L: one block more
 
-    pub len-grown : len′ π v f r ≡ suc r
-    unfolding len′
-    len-grown = refl
+    pub len-more : len π v f ≤ suc r
+    len-more = omega (arith, ok .next)
 
-    pub len-more : len π v f ≤ len′ π v f r
-    len-more = omega (arith, len-grown, ok .next)
-
-    pub len-over : r < len′ π v f r
-    len-over = omega (arith, len-grown)
-
-    pub len-short : len′ π v f r ≤ reach
-    len-short = omega (arith, len-grown, ok .far)
+    pub len-short : suc r ≤ reach
+    len-short = omega (arith, ok .far)
 
     -- what is present is asked for, or the FIB
-    pub asked′ : (k : ℕ) → k ≢ home → present′ π v f r k ≡ true → first k < len′ π v f r
+    pub asked′ : (k : ℕ) → k ≢ home → present′ π v f r k ≡ true → first k < suc r
     asked′ k n p = go (present-split k p)
       where
-        go : (isNew π v f r k ≡ true) ⊎ (present π v f k ≡ true) → first k < len′ π v f r
-        go (inl q) = omega (arith, new-first π v f r ok k q, len-over)
+        go : (isNew π v f r k ≡ true) ⊎ (present π v f k ≡ true) → first k < suc r
+        go (inl q) = omega (arith, new-first π v f r ok k q)
         go (inr q) = omega (arith, here-of π v f k n q .asked, len-more)
 
-    pub range′ : (k : ℕ) → present′ π v f r k ≡ true → (low (len′ π v f r) ≤ k) × (k ≤ home + len′ π v f r)
+    pub range′ : (k : ℕ) → present′ π v f r k ≡ true → (low (suc r) ≤ k) × (k ≤ home + suc r)
     range′ k p = go (eqb k home) refl
       where
-        go : (t : Bool) → eqb k home ≡ t → (low (len′ π v f r) ≤ k) × (k ≤ home + len′ π v f r)
-        go true q = let e = eqb-true k home q in (omega (arith, low-home (len′ π v f r)), omega arith)
-        go false q = let a = asked′ k (eqb-false k home q) p in (asked-low k (len′ π v f r) a, asked-high k (len′ π v f r) a)
+        go : (t : Bool) → eqb k home ≡ t → (low (suc r) ≤ k) × (k ≤ home + suc r)
+        go true q = let e = eqb-true k home q in (omega (arith, low-home (suc r)), omega arith)
+        go false q = let a = asked′ k (eqb-false k home q) p in (asked-low k (suc r) a, asked-high k (suc r) a)
 
     -- what is asked for is present: block r and, where it is the first of a pointer block, that block are new
-    pub full′ : (k : ℕ) → first k < len′ π v f r → present′ π v f r k ≡ true
+    pub full′ : (k : ℕ) → first k < suc r → present′ π v f r k ≡ true
     full′ k l = go (ltb (first k) (len π v f)) refl
       where
         data-key : home < k → r ≤ first k → present′ π v f r k ≡ true
         data-key h m =
-            let e : k ≡ over r 0 = omega (arith, first-data k h, over-zero r, len-grown) in
+            let e : k ≡ over r 0 = omega (arith, first-data k h, over-zero r) in
             ap (present′ π v f r) e ∙ present-new (over r 0) (new-at π v f r ok 0 (needs-some π v f r ok))
 
         pointer-key : k ≤ 288 → r ≤ first k → present′ π v f r k ≡ true
         pointer-key h m = ap (present′ π v f r) e ∙ present-new (over r 1) (new-at π v f r ok 1 (needs-more π v f r ok (absent (present π v f (over r 1)) refl)))
           where
             e : k ≡ over r 1
-            e = let g = first-pointer k h in let q : 64 ≤ r = omega (arith, len-grown) in omega (arith, over-data r q, len-grown)
+            e = let g = first-pointer k h in let q : 64 ≤ r = omega (arith) in omega (arith, over-data r q)
 
             n : over r 1 ≢ home
             n z = omega (arith, e)

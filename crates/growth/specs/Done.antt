@@ -2,7 +2,7 @@
 use mathlib.Core.Path.{_≡_, refl, sym, ap, ap₂, _∙_, subst}
 use mathlib.Core.Logic.{_⊎_, inl, inr, _≢_}
 use mathlib.Core.Bool.{Bool, true, false}
-use Prim.Native.Nat.{ℕ, _+_, _-_, _%_, _≤_, _<_}
+use Prim.Native.Nat.{ℕ, suc, _+_, _-_, _%_, _≤_, _<_}
 use native.Mathlib.Omega.{arith}
 use Rattle.base.specs.Tests.{pick}
 use Rattle.drive.specs.Address.{lda}
@@ -11,11 +11,11 @@ use Rattle.volume.specs.Keys.{home, up, slot}
 use Rattle.volume.specs.Files.{Partition, isLda, len, spot, present, entry, above, below}
 use Rattle.volume.specs.Index.{entry-at}
 use Rattle.volume.specs.Frame.{SameHead, head-of, head-trans}
-use Rattle.volume.specs.Writes.{over, needs, isNew, fresh, len′, present′, spot′, above′, below′, least′, grown}
+use Rattle.volume.specs.Writes.{over, needs, isNew, fresh, present′, spot′, above′, below′, least′, grown}
 use Rattle.frame.specs.Reading.{two}
 use Rattle.growth.specs.Ready.{Ready}
 use Rattle.growth.specs.Path.{placed, new-at, new-holder, needs-some}
-use Rattle.growth.specs.Afterwards.{present-old, present-not, spot-new, spot-old, len-grown, new-old, spot-is}
+use Rattle.growth.specs.Afterwards.{present-old, present-not, spot-new, spot-old, new-old, spot-is}
 use Rattle.growth.specs.Written.{Written}
 use Rattle.growth.specs.Grown.{grown-head, grown-entry, grown-data, base-old, base-entry, new-serial, new-number, new-data, fib-length, fib-last, fib-size, fib-low, fib-address, fib-kept}
 use Rattle.growth.specs.Before.{gains-is}
@@ -81,9 +81,9 @@ module _ (π : Partition) (v : View) (f r : ℕ) (dat : Rec) (ok : Ready π v f 
                 ap (λ (x : Rec). two x (slot k)) (z .same) ∙ ap (λ (b : ℕ). pair v b (slot k)) (spot-old π v f r (up k) q) ∙ sym (entry-at π v f k)
                 ∙ sym (ap₂ (λ (t u : Bool). pick t (lda (π .drive) (fresh π v f r k)) (pick u 0 (entry π v f k))) h q)
 
-    length-is : len π W f ≡ len′ π v f r
+    length-is : len π W f ≡ suc r
     unfolding len
-    length-is = ap (λ (x : Rec). (x 258 + 1) % 65536) (d .fib) ∙ ap (λ (x : ℕ). (x + 1) % 65536) (fib-length π v f r dat ok) ∙ omega (arith, len-grown π v f r ok, ok .far)
+    length-is = ap (λ (x : Rec). (x 258 + 1) % 65536) (d .fib) ∙ ap (λ (x : ℕ). (x + 1) % 65536) (fib-length π v f r dat ok) ∙ omega (arith, ok .far)
 
     pub done-written : Written π v f r W
     done-written = record {

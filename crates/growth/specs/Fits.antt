@@ -18,7 +18,7 @@ use Rattle.volume.specs.Keys.{home, number, slot, low, span}
 use Rattle.volume.specs.KeyLaws.{slot-high, span-end}
 use Rattle.volume.specs.Files.{Partition, isLda, address, inside, spot}
 use Rattle.volume.specs.Plans.{freeAt}
-use Rattle.volume.specs.Writes.{put2If, over, counted, needs, isNew, fresh, len′, present′, spot′, above′, below′, least′, size′, link′, empty, base, holds, entered, ended, body, grown}
+use Rattle.volume.specs.Writes.{put2If, over, counted, needs, isNew, fresh, present′, spot′, above′, below′, least′, size′, link′, empty, base, holds, entered, ended, body, grown}
 use Rattle.frame.specs.Soft.{cand-in}
 use Rattle.frame.specs.Fitting.{put-fits, put2-fits, blank-fits, Words, data-fits}
 use Rattle.growth.specs.Ready.{Ready}
@@ -54,7 +54,7 @@ module _ (π : Partition) (v : View) (f r : ℕ) (dat : Rec) (ok : Ready π v f 
 
   size-small : size′ π v f r < 65536
   unfolding size′
-  size-small = omega (arith, count-both (span (len′ π v f r)) (λ i. present′ π v f r (low (len′ π v f r) + i)), span-end (len′ π v f r), len-short π v f r ok)
+  size-small = omega (arith, count-both (span (suc r)) (λ i. present′ π v f r (low (suc r) + i)), span-end (suc r), len-short π v f r ok)
 
   address-small : (a b : ℕ) → a < 4294967296 → b < 69552 → address (π .drive) a b < 4294967296
   unfolding address

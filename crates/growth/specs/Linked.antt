@@ -2,7 +2,7 @@
 use mathlib.Core.Path.{_≡_, refl, sym, ap, ap₂, _∙_, subst}
 use mathlib.Core.Logic.{_⊎_, inl, inr, _≢_}
 use mathlib.Core.Bool.{Bool, true, false}
-use Prim.Native.Nat.{ℕ, _≤_, _<_}
+use Prim.Native.Nat.{ℕ, suc, _≤_, _<_}
 use native.Mathlib.Omega.{arith}
 use lib.Dec.{eqb}
 use borrow.Author.Tests.{eqb-false}
@@ -16,12 +16,12 @@ use Rattle.volume.specs.KeyLaws.{child-of, child-word, low-pos, up-home}
 use Rattle.volume.specs.Files.{Partition, len, spot, present, entry, wellFormed, above, below, link}
 use Rattle.volume.specs.Index.{present-low, present-high, wf-of}
 use Rattle.volume.specs.Order.{above-is, below-is}
-use Rattle.volume.specs.Writes.{isNew, fresh, len′, present′, spot′, above′, below′, link′, grown}
+use Rattle.volume.specs.Writes.{isNew, fresh, present′, spot′, above′, below′, link′, grown}
 use Rattle.frame.specs.Reading.{two}
 use Rattle.frame.specs.FreeChain.{Links}
 use Rattle.growth.specs.Ready.{Tails, Ready}
 use Rattle.growth.specs.Path.{new-first}
-use Rattle.growth.specs.Afterwards.{present-not, len-more, len-over, spot-is}
+use Rattle.growth.specs.Afterwards.{present-not, len-more, spot-is}
 use Rattle.growth.specs.Written.{Written, written-present, written-spot, written-above, written-below, written-formed}
 use Rattle.growth.specs.Grown.{grown-next, grown-prev}
 use Rattle.growth.specs.Done.{Left, Done, done-written}
@@ -85,14 +85,14 @@ module _ (π : Partition) (v : View) (f r : ℕ) (dat : Rec) (ok : Ready π v f 
         held : present′ π v f r (up (child k (slotAt i))) ≡ true
         held = ap (present′ π v f r) (a .0) ∙ there k p
 
-        more : len′ π v f r ≤ first (child k (slotAt i))
+        more : suc r ≤ first (child k (slotAt i))
         more = subst (λ (x : ℕ). x ≤ first (child k (slotAt i))) (w .length) h
 
         not-new : isNew π v f r (child k (slotAt i)) ≡ false
         not-new = go (isNew π v f r (child k (slotAt i))) refl
           where
             go : (t : Bool) → isNew π v f r (child k (slotAt i)) ≡ t → t ≡ false
-            go true z = absurd (omega (arith, new-first π v f r ok _ z, len-over π v f r ok, more))
+            go true z = absurd (omega (arith, new-first π v f r ok _ z, more))
             go false z = refl
 
         go : (t : Bool) → isNew π v f r (up (child k (slotAt i))) ≡ t → pick t 0 (entry π v f (child k (slotAt i))) ≡ 0

@@ -13,10 +13,10 @@ use Rattle.volume.specs.KeyLaws.{low-pos, span-end, first-pointer}
 use Rattle.volume.specs.Files.{Partition, len, present, above, below, least}
 use Rattle.volume.specs.Index.{present-low, present-high, present-pos, wf-of}
 use Rattle.volume.specs.Order.{Next, Prev, next-one, prev-one, above-is, below-is, least-is, least-present}
-use Rattle.volume.specs.Writes.{over, needs, isNew, len′, present′, above′, below′, least′}
+use Rattle.volume.specs.Writes.{over, needs, isNew, present′, above′, below′, least′}
 use Rattle.growth.specs.Ready.{Ready}
 use Rattle.growth.specs.Path.{over-zero, over-near, placed, needs-few, new-absent, new-not-home}
-use Rattle.growth.specs.Afterwards.{present-old, present-split, asked′, len-grown, len-short, range′, home-there}
+use Rattle.growth.specs.Afterwards.{present-old, present-split, asked′, len-short, range′, home-there}
 
 -- ---- a search over all numbers that may pass
 
@@ -52,28 +52,28 @@ module _ (π : Partition) (v : View) (f r : ℕ) (ok : Ready π v f r) where
   abbrev P : ℕ → Bool
   P = present′ π v f r
 
-  pos′ : 0 < low (len′ π v f r)
-  pos′ = low-pos (len′ π v f r) (len-short π v f r ok)
+  pos′ : 0 < low (suc r)
+  pos′ = low-pos (suc r) (len-short π v f r ok)
 
   -- what above, below and least find afterwards
   pub above′-is : (k : ℕ) → Next (present′ π v f r) k (above′ π v f r k)
   unfolding above′
-  above′-is k = seek-next P (low (len′ π v f r)) (home + len′ π v f r) pos′ (range′ π v f r ok) k (home + len′ π v f r - k) (omega arith)
+  above′-is k = seek-next P (low (suc r)) (home + suc r) pos′ (range′ π v f r ok) k (home + suc r - k) (omega arith)
 
   pub below′-is : (k : ℕ) → Prev (present′ π v f r) k (below′ π v f r k)
   unfolding below′
-  below′-is k = down-prev P (low (len′ π v f r)) (home + len′ π v f r) pos′ (range′ π v f r ok) k
+  below′-is k = down-prev P (low (suc r)) (home + suc r) pos′ (range′ π v f r ok) k
 
   pub least′-is : Next (present′ π v f r) 0 (least′ π v f r)
   unfolding least′
   least′-is = record { hit = λ n. (s .hit n .0, omega (arith, s .hit n .1 .0, pos′)); none = λ i a m. at i m (P i) refl }
     where
-      s : Least P (low (len′ π v f r)) (low (len′ π v f r) + span (len′ π v f r)) (seek (span (len′ π v f r)) (low (len′ π v f r)) P)
-      s = seek-least (span (len′ π v f r)) (low (len′ π v f r)) P pos′
+      s : Least P (low (suc r)) (low (suc r) + span (suc r)) (seek (span (suc r)) (low (suc r)) P)
+      s = seek-least (span (suc r)) (low (suc r)) P pos′
 
-      at : (i : ℕ) → (seek (span (len′ π v f r)) (low (len′ π v f r)) P ≢ 0 → i < seek (span (len′ π v f r)) (low (len′ π v f r)) P) → (t : Bool) → P i ≡ t → t ≡ false
+      at : (i : ℕ) → (seek (span (suc r)) (low (suc r)) P ≢ 0 → i < seek (span (suc r)) (low (suc r)) P) → (t : Bool) → P i ≡ t → t ≡ false
       at i m false q = refl
-      at i m true q = let b = range′ π v f r ok i q in sym q ∙ s .none i (b .0) (omega (arith, b .1, span-end (len′ π v f r))) m
+      at i m true q = let b = range′ π v f r ok i q in sym q ∙ s .none i (b .0) (omega (arith, b .1, span-end (suc r))) m
 
   pub least′-there : (least′ π v f r ≢ 0) × (present′ π v f r (least′ π v f r) ≡ true)
   least′-there = (ne, least′-is .hit ne .0)
@@ -123,7 +123,7 @@ module _ (π : Partition) (v : View) (f r : ℕ) (ok : Ready π v f r) where
       go true q = omega (arith, is, ltb-true 288 k q)
       go false q =
           let l = ltb-false 288 k q in
-          omega (arith, is, ne, first-pointer k l, asked′ π v f r ok k (λ z. omega arith) p, len-grown π v f r ok)
+          omega (arith, is, ne, first-pointer k l, asked′ π v f r ok k (λ z. omega arith) p)
 
   pub first-old : needs π v f r ≡ 2 → (k : ℕ) → present π v f k ≡ true → over r 1 < k
   first-old n k p = first-new n k (present-old π v f r k p) (λ z. true≢false (sym p ∙ ap (present π v f) z ∙ new-absent π v f r ok 1 (omega arith)))

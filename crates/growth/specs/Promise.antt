@@ -92,7 +92,7 @@ module _ (π : Partition) (v : View) (f r : ℕ) (W : Writing π v f r) where
     unfolding isFile
     write-grew = subst (Grew π v f r dat) (sym run) (record {
       file = both-of (still-candidate π v f r dat may (W .ok) (W .enough) (early π v f r) order) (written-formed π v f r may tails X w);
-      length = w .length ∙ later.len-grown π v f r may;
+      length = w .length;
       there = written-present π v f r may tails X w;
       where-is = written-spot π v f r may tails X w;
       wrote = done-data π v f r dat may X d;

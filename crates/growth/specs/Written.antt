@@ -20,11 +20,11 @@ use Rattle.volume.specs.Files.{Partition, isLda, len, spot, present, entry, wel
 use Rattle.volume.specs.Index.{Here, here-of, of-here, spot-home, present-home, spot-step, entry-fib, Member, WF, wf-of, of-wf, member}
 use Rattle.volume.specs.Frame.{SameHead, same-serial}
 use Rattle.volume.specs.Plans.{freeAt}
-use Rattle.volume.specs.Writes.{over, isNew, fresh, len′, present′, spot′, above′, below′, least′, size′}
+use Rattle.volume.specs.Writes.{over, isNew, fresh, present′, spot′, above′, below′, least′, size′}
 use Rattle.frame.specs.Repair.{lda-self}
 use Rattle.growth.specs.Ready.{Tails, Ready}
 use Rattle.growth.specs.Path.{over-zero, new-at, fresh-at, needs-some, new-first, new-up, fresh-in, home-old}
-use Rattle.growth.specs.Afterwards.{present-new, present-old, present-split, present-not, spot-new, spot-old, len-more, len-over, len-short, len-grown, asked′, full′, new-old}
+use Rattle.growth.specs.Afterwards.{present-new, present-old, present-split, present-not, spot-new, spot-old, len-more, len-short, asked′, full′, new-old}
 use Rattle.growth.specs.Neighbours.{least′-there}
 
 module _ (π : Partition) (v : View) (f r : ℕ) where
@@ -34,7 +34,7 @@ module _ (π : Partition) (v : View) (f r : ℕ) where
     pub new : (k : ℕ) → isNew π v f r k ≡ true → (pair W (fresh π v f r k) serialAt ≡ pda (π .drive) f) × (W (fresh π v f r k) relativeAt ≡ number k)
     pub entries : (k : ℕ) → k ≢ home → 0 < k → k < 37220 → present′ π v f r (up k) ≡ true
         → pair W (spot′ π v f r (up k)) (slot k) ≡ pick (isNew π v f r k) (lda (π .drive) (fresh π v f r k)) (pick (isNew π v f r (up k)) 0 (entry π v f k))
-    pub length : len π W f ≡ len′ π v f r
+    pub length : len π W f ≡ suc r
     pub last : pair W f lastAddressAt ≡ lda (π .drive) (freeAt π v 0)
     pub used : W f inUseAt ≡ size′ π v f r
     pub lowest : W f lowNumberAt ≡ number (least′ π v f r)
@@ -47,8 +47,8 @@ module _ (π : Partition) (v : View) (f r : ℕ) where
       pub at : present′ π v f r k ≡ true → spot π W f k ≡ spot′ π v f r k
 
     -- a key that is asked for is one
-    valid : (k : ℕ) → first k < len′ π v f r → (0 < k) × (k < 37220)
-    valid k l = (omega (arith, asked-low k (len′ π v f r) l, low-pos (len′ π v f r) (len-short π v f r ok)), omega (arith, asked-high k (len′ π v f r) l, len-short π v f r ok))
+    valid : (k : ℕ) → first k < suc r → (0 < k) × (k < 37220)
+    valid k l = (omega (arith, asked-low k (suc r) l, low-pos (suc r) (len-short π v f r ok)), omega (arith, asked-high k (suc r) l, len-short π v f r ok))
 
     -- the holder of what is present is
     up-too : (k : ℕ) → k ≢ home → present′ π v f r k ≡ true → present′ π v f r (up k) ≡ true
@@ -67,7 +67,7 @@ module _ (π : Partition) (v : View) (f r : ℕ) where
       unfolding entry
       entry-is a b p = ap (λ (x : ℕ). pair W x (slot k)) (at-up p) ∙ w .entries k n a b p
 
-      entry-asked : first k < len′ π v f r → present′ π v f r (up k) ≡ true → entry π W f k ≡ Entry (isNew π v f r k) (isNew π v f r (up k))
+      entry-asked : first k < suc r → present′ π v f r (up k) ≡ true → entry π W f k ≡ Entry (isNew π v f r k) (isNew π v f r (up k))
       entry-asked l p = entry-is (valid k l .0) (valid k l .1) p
 
       entry-there : present′ π v f r k ≡ true → entry π W f k ≡ Entry (isNew π v f r k) (isNew π v f r (up k))
@@ -95,7 +95,7 @@ module _ (π : Partition) (v : View) (f r : ℕ) where
             h : Here π W f k
             h = here-of π W f k n p
 
-            l : first k < len′ π v f r
+            l : first k < suc r
             l = subst (λ (x : ℕ). first k < x) (w .length) (h .asked)
 
             u : present′ π v f r (up k) ≡ true
@@ -179,12 +179,12 @@ module _ (π : Partition) (v : View) (f r : ℕ) where
         not-new = go (isNew π v f r k) refl
           where
             go : (t : Bool) → isNew π v f r k ≡ t → t ≡ false
-            go true z = absurd (omega (arith, new-first π v f r ok k z, len-over π v f r ok, w .length))
+            go true z = absurd (omega (arith, new-first π v f r ok k z, w .length))
             go false z = refl
 
     -- the last block is block r
     end-is : home + len π W f ≡ over r 0
-    end-is = omega (arith, w .length, len-grown π v f r ok, over-zero r)
+    end-is = omega (arith, w .length, over-zero r)
 
     first-new : isNew π v f r (over r 0) ≡ true
     first-new = new-at π v f r ok 0 (needs-some π v f r ok)

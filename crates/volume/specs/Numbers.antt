@@ -18,7 +18,7 @@ use Rattle.volume.specs.Search.{seek, down}
 use Rattle.volume.specs.Keys.{keyOf, number, up, slot, child, first, low, span}
 use Rattle.volume.specs.Files.{Partition, partitionOf, isLda, address, inside, within, candidate, len, spotIn, presentIn, spot, present, entry, least, size, tally, named, indexed, gapless, wellFormed, isFile, isMalformed, key, owned, files, unowned, above, below, link, linked, chain, free, chained, freeSound, sound}
 use Rattle.volume.specs.Plans.{newFirst, pibLess, freshFib, gone, topGone, fibGone, topGoneStores, lastGoneStores, pibMore, destroyed, trimmed, shaped, stores, freeAt, takenStores, createPlan, describePlan, destroyPlan, content, relinked, freed, repaired, repairedPib, repairPlan}
-use Rattle.volume.specs.Writes.{put2If, over, counted, inner, needs, isNew, fresh, len′, present′, spot′, above′, below′, least′, size′, link′, early, empty, base, entered, ended, body, grown, planOf, writePlan, replacePlan}
+use Rattle.volume.specs.Writes.{put2If, over, counted, inner, needs, isNew, fresh, present′, spot′, above′, below′, least′, size′, link′, early, empty, base, entered, ended, body, grown, planOf, writePlan, replacePlan}
 use Rattle.volume.specs.Calls.{createIn, appendIn, writeIn, describeIn, destroyIn, repairIn}
 use lib.ListN.{replicate}
 use Rattle.image.specs.Image.{view}
@@ -49,7 +49,7 @@ pub torn : View
 torn b = pick (eqb b 5) (put lastBlockAt 0 (freshFib 0 (λ _. blank) 5 0)) blank
 
 pub given : List (List ℕ)
-unfolding view zeroed small taken torn both every all count tabFrom those occ lastOf headOf tests.above tests.below onDrive placeNumber guess blocks pda pdaBlock lda ldaBlock fileId fileIdBlock fileIds lbnToPda lbnToLda ldaToLbn pdaToLbn lbnToFileId after put put2 blank withData withText words seek down keyOf number up slot child first low span isLda address inside within candidate len spotIn presentIn spot present entry least size tally named indexed gapless wellFormed isFile isMalformed key owned files unowned above below link linked chain free chained freeSound sound lowest lowestMalformed tallied checkIn newFirst pibLess freshFib gone topGone fibGone topGoneStores lastGoneStores pibMore destroyed trimmed shaped stores freeAt takenStores createPlan describePlan destroyPlan content relinked freed repaired repairedPib repairPlan put2If over counted inner needs isNew fresh len′ present′ spot′ above′ below′ least′ size′ link′ early empty base entered ended body grown planOf writePlan replacePlan createIn appendIn writeIn describeIn destroyIn repairIn imageGood endOf partGood partition showIn shown readFrom
+unfolding view zeroed small taken torn both every all count tabFrom those occ lastOf headOf tests.above tests.below onDrive placeNumber guess blocks pda pdaBlock lda ldaBlock fileId fileIdBlock fileIds lbnToPda lbnToLda ldaToLbn pdaToLbn lbnToFileId after put put2 blank withData withText words seek down keyOf number up slot child first low span isLda address inside within candidate len spotIn presentIn spot present entry least size tally named indexed gapless wellFormed isFile isMalformed key owned files unowned above below link linked chain free chained freeSound sound lowest lowestMalformed tallied checkIn newFirst pibLess freshFib gone topGone fibGone topGoneStores lastGoneStores pibMore destroyed trimmed shaped stores freeAt takenStores createPlan describePlan destroyPlan content relinked freed repaired repairedPib repairPlan put2If over counted inner needs isNew fresh present′ spot′ above′ below′ least′ size′ link′ early empty base entered ended body grown planOf writePlan replacePlan createIn appendIn writeIn describeIn destroyIn repairIn imageGood endOf partGood partition showIn shown readFrom
 given =
     let v₀ = after (repairIn seven zeroed .list) zeroed in
     let v₁ = after (createIn seven v₀ 5 .list) v₀ in
@@ -81,7 +81,7 @@ numbers =
     ∷ []
 
 pub each-given : given ≡ numbers
-unfolding sameRow sameTable view given numbers block zeroed small taken torn both every all count tabFrom those occ lastOf headOf tests.above tests.below onDrive placeNumber guess blocks pda pdaBlock lda ldaBlock fileId fileIdBlock fileIds lbnToPda lbnToLda ldaToLbn pdaToLbn lbnToFileId after put put2 blank withData withText words seek down keyOf number up slot child first low span isLda address inside within candidate len spotIn presentIn spot present entry least size tally named indexed gapless wellFormed isFile isMalformed key owned files unowned above below link linked chain free chained freeSound sound lowest lowestMalformed tallied checkIn newFirst pibLess freshFib gone topGone fibGone topGoneStores lastGoneStores pibMore destroyed trimmed shaped stores freeAt takenStores createPlan describePlan destroyPlan content relinked freed repaired repairedPib repairPlan put2If over counted inner needs isNew fresh len′ present′ spot′ above′ below′ least′ size′ link′ early empty base entered ended body grown planOf writePlan replacePlan createIn appendIn writeIn describeIn destroyIn repairIn imageGood endOf partGood partition showIn shown readFrom
+unfolding sameRow sameTable view given numbers block zeroed small taken torn both every all count tabFrom those occ lastOf headOf tests.above tests.below onDrive placeNumber guess blocks pda pdaBlock lda ldaBlock fileId fileIdBlock fileIds lbnToPda lbnToLda ldaToLbn pdaToLbn lbnToFileId after put put2 blank withData withText words seek down keyOf number up slot child first low span isLda address inside within candidate len spotIn presentIn spot present entry least size tally named indexed gapless wellFormed isFile isMalformed key owned files unowned above below link linked chain free chained freeSound sound lowest lowestMalformed tallied checkIn newFirst pibLess freshFib gone topGone fibGone topGoneStores lastGoneStores pibMore destroyed trimmed shaped stores freeAt takenStores createPlan describePlan destroyPlan content relinked freed repaired repairedPib repairPlan put2If over counted inner needs isNew fresh present′ spot′ above′ below′ least′ size′ link′ early empty base entered ended body grown planOf writePlan replacePlan createIn appendIn writeIn describeIn destroyIn repairIn imageGood endOf partGood partition showIn shown readFrom
 each-given = same-table given numbers refl
 
 -- ---- details of reading, allocation, destroy and repair, word by word
@@ -93,7 +93,7 @@ header v b =
     block (pair v b serialAt) ∷ v b relativeAt ∷ v b fillerAt ∷ block (pair v b nextAt) ∷ block (pair v b previousAt) ∷ []
 
 pub seen : List (List ℕ)
-unfolding view zeroed small taken torn header both every all count tabFrom those occ lastOf headOf tests.above tests.below onDrive placeNumber guess blocks pda pdaBlock lda ldaBlock fileId fileIdBlock fileIds lbnToPda lbnToLda ldaToLbn pdaToLbn lbnToFileId after put put2 blank withData withText words seek down keyOf number up slot child first low span isLda address inside within candidate len spotIn presentIn spot present entry least size tally named indexed gapless wellFormed isFile isMalformed key owned files unowned above below link linked chain free chained freeSound sound lowest lowestMalformed tallied checkIn newFirst pibLess freshFib gone topGone fibGone topGoneStores lastGoneStores pibMore destroyed trimmed shaped stores freeAt takenStores createPlan describePlan destroyPlan content relinked freed repaired repairedPib repairPlan put2If over counted inner needs isNew fresh len′ present′ spot′ above′ below′ least′ size′ link′ early empty base entered ended body grown planOf writePlan replacePlan createIn appendIn writeIn describeIn destroyIn repairIn imageGood endOf partGood partition showIn shown readFrom
+unfolding view zeroed small taken torn header both every all count tabFrom those occ lastOf headOf tests.above tests.below onDrive placeNumber guess blocks pda pdaBlock lda ldaBlock fileId fileIdBlock fileIds lbnToPda lbnToLda ldaToLbn pdaToLbn lbnToFileId after put put2 blank withData withText words seek down keyOf number up slot child first low span isLda address inside within candidate len spotIn presentIn spot present entry least size tally named indexed gapless wellFormed isFile isMalformed key owned files unowned above below link linked chain free chained freeSound sound lowest lowestMalformed tallied checkIn newFirst pibLess freshFib gone topGone fibGone topGoneStores lastGoneStores pibMore destroyed trimmed shaped stores freeAt takenStores createPlan describePlan destroyPlan content relinked freed repaired repairedPib repairPlan put2If over counted inner needs isNew fresh present′ spot′ above′ below′ least′ size′ link′ early empty base entered ended body grown planOf writePlan replacePlan createIn appendIn writeIn describeIn destroyIn repairIn imageGood endOf partGood partition showIn shown readFrom
 seen =
     let v₀ = after (repairIn seven zeroed .list) zeroed in
     let v₁ = after (createIn seven v₀ 5 .list) v₀ in
@@ -138,5 +138,5 @@ meant =
     ∷ []
 
 pub as-meant : seen ≡ meant
-unfolding sameRow sameTable view seen meant block zeroed small taken torn header both every all count tabFrom those occ lastOf headOf tests.above tests.below onDrive placeNumber guess blocks pda pdaBlock lda ldaBlock fileId fileIdBlock fileIds lbnToPda lbnToLda ldaToLbn pdaToLbn lbnToFileId after put put2 blank withData withText words seek down keyOf number up slot child first low span isLda address inside within candidate len spotIn presentIn spot present entry least size tally named indexed gapless wellFormed isFile isMalformed key owned files unowned above below link linked chain free chained freeSound sound lowest lowestMalformed tallied checkIn newFirst pibLess freshFib gone topGone fibGone topGoneStores lastGoneStores pibMore destroyed trimmed shaped stores freeAt takenStores createPlan describePlan destroyPlan content relinked freed repaired repairedPib repairPlan put2If over counted inner needs isNew fresh len′ present′ spot′ above′ below′ least′ size′ link′ early empty base entered ended body grown planOf writePlan replacePlan createIn appendIn writeIn describeIn destroyIn repairIn imageGood endOf partGood partition showIn shown readFrom
+unfolding sameRow sameTable view seen meant block zeroed small taken torn header both every all count tabFrom those occ lastOf headOf tests.above tests.below onDrive placeNumber guess blocks pda pdaBlock lda ldaBlock fileId fileIdBlock fileIds lbnToPda lbnToLda ldaToLbn pdaToLbn lbnToFileId after put put2 blank withData withText words seek down keyOf number up slot child first low span isLda address inside within candidate len spotIn presentIn spot present entry least size tally named indexed gapless wellFormed isFile isMalformed key owned files unowned above below link linked chain free chained freeSound sound lowest lowestMalformed tallied checkIn newFirst pibLess freshFib gone topGone fibGone topGoneStores lastGoneStores pibMore destroyed trimmed shaped stores freeAt takenStores createPlan describePlan destroyPlan content relinked freed repaired repairedPib repairPlan put2If over counted inner needs isNew fresh present′ spot′ above′ below′ least′ size′ link′ early empty base entered ended body grown planOf writePlan replacePlan createIn appendIn writeIn describeIn destroyIn repairIn imageGood endOf partGood partition showIn shown readFrom
 as-meant = same-table seen meant refl

@@ -48,10 +48,7 @@ module _ (π : Partition) (v : View) where
     unfoldable pub fresh : ℕ → ℕ
     fresh k = pick (newly 0 k) (freeAt π v 0) (pick (newly 1 k) (freeAt π v 1) (freeAt π v 2))
 
-    -- the file afterwards: L + 1, what is present, and where; link order
-    unfoldable pub len′ : ℕ
-    len′ = suc r
-
+    -- the file of r + 1 blocks afterwards: what is present, and where; link order
     unfoldable pub present′ : ℕ → Bool
     present′ k = isNew k || present π v f k
 
@@ -59,16 +56,16 @@ module _ (π : Partition) (v : View) where
     spot′ k = pick (isNew k) (fresh k) (spot π v f k)
 
     unfoldable pub above′ : ℕ → ℕ
-    above′ k = seek (home + len′ - k) (suc k) present′
+    above′ k = seek (home + suc r - k) (suc k) present′
 
     unfoldable pub below′ : ℕ → ℕ
-    below′ k = down (low len′) (k - low len′) present′
+    below′ k = down (low (suc r)) (k - low (suc r)) present′
 
     unfoldable pub least′ : ℕ
-    least′ = seek (span len′) (low len′) present′
+    least′ = seek (span (suc r)) (low (suc r)) present′
 
     unfoldable pub size′ : ℕ
-    size′ = count (span len′) (λ i. present′ (low len′ + i))
+    size′ = count (span (suc r)) (λ i. present′ (low (suc r) + i))
 
     unfoldable pub link′ : ℕ → ℕ
     link′ k = pick (eqb k 0) 0 (pda (π .drive) (spot′ k))
