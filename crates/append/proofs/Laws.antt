@@ -14,7 +14,8 @@ use Rattle.image.specs.Image.{view}
 use Rattle.volume.specs.Words.{nextAt, previousAt}
 use Rattle.volume.specs.Keys.{home, low}
 use Rattle.volume.specs.KeyLaws.{low-pos}
-use Rattle.volume.specs.Files.{Partition, partitionOf, spot, present}
+use Rattle.volume.specs.Files.{partitionOf, spot, present}
+use Rattle.volume.specs.declared.Partition.{Partition}
 use Rattle.volume.specs.Index.{present-home}
 use Rattle.volume.specs.Order.{least-present}
 use Rattle.volume.specs.Closed.{hasKey, nextKey, prevKey, next-key, prev-key, first-key, least-closed}

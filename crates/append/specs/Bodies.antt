@@ -13,7 +13,8 @@ use Rattle.image.specs.Saves.{withData}
 use Rattle.volume.specs.Words.{serialAt, relativeAt, fillerAt, slotAt, directAt, indirectAt, inUseAt, lastBlockAt, lastAddressAt, lowNumberAt, lowAddressAt}
 use Rattle.volume.specs.Keys.{home, number, slot, low}
 use Rattle.volume.specs.KeyLaws.{low-home}
-use Rattle.volume.specs.Files.{Partition, wellFormed, len, spot}
+use Rattle.volume.specs.Files.{wellFormed, len, spot}
+use Rattle.volume.specs.declared.Partition.{Partition}
 use Rattle.volume.specs.Closed.{sizeOf}
 use Rattle.volume.specs.Plans.{freeAt}
 use Rattle.volume.specs.Reads.{address-lda}
@@ -50,7 +51,7 @@ over-low n = go (ltb n 64) refl
     go true q = omega (arith, over-fib n (ltb-true n 64 q))
     go false q = omega (arith, over-pointer n (ltb-false n 64 q), low-home (n + 1))
 
-module _ (π : Partition) (v : View) (f n : ℕ) (wf : wellFormed π v f ≡ true) (next : n ≡ len π v f) (far : n < 4160) (dat : Rec) where
+module _ (π : Partition) (v : View) (f n : ℕ) (wf : wellFormed π v f ≡ true) (next : n ≡ len v f) (far : n < 4160) (dat : Rec) where
   -- the entries that a block gains: that of block n, and in the FIB that of a new pointer block
   entered-is : (k : ℕ) (x : Rec) → entered π v f n dat k x
       ≡ put2If (eqb (over n 1) k) (slot (over n 0)) (lda (π .drive) (freeAt π v 0)) (put2If (both (grows n) (eqb home k)) (slot (over n 1)) (lda (π .drive) (freeAt π v 1)) x)

@@ -11,33 +11,35 @@ use Rattle.image.specs.Image.{view}
 use Rattle.image.specs.Saves.{withData}
 use Rattle.volume.specs.Words.{nextAt, previousAt, slotAt}
 use Rattle.volume.specs.Keys.{home, low}
-use Rattle.volume.specs.Files.{Partition, partitionOf, len}
+use Rattle.volume.specs.Files.{partitionOf, len}
+use Rattle.volume.specs.declared.Partition.{Partition}
 use Rattle.volume.specs.Plans.{st, freeAt}
 use Rattle.volume.specs.Writes.{spot′, above′, below′, link′}
 use Rattle.inspect.specs.Parts.{Opened}
 use Rattle.records.specs.Records.{Block}
 use Rattle.append.specs.Numbers.{grows}
 use Rattle.append.specs.Grown.{takes}
+use Rattle.append.specs.declared.Append.{Append}
 use Rattle.append.specs.Bodies.{stamped, pointerBase, grownFib}
 
--- the file f of n blocks in the image l, and the first two free blocks, a and q
-pub record Growing (d : ℕ) (l : List ℕ) (s e f n a q : ℕ) : Type 0 where
-  pub opened : Opened (partitionOf d s e) l f
-  pub next : n ≡ len (partitionOf d s e) (view l) f
-  pub far : n < 4160
-  pub first : a ≡ freeAt (partitionOf d s e) (view l) 0
-  pub second : q ≡ freeAt (partitionOf d s e) (view l) 1
-  pub f-in : Block l f
-  pub a-in : Block l a
-  pub q-in : Block l q
+-- the file of a write in the image l, and the first two free blocks
+pub record Growing (w : Append) (l : List ℕ) : Type 0 where
+  pub opened : Opened (w .p) l (w .f)
+  pub next : w .n ≡ len (view l) (w .f)
+  pub far : w .n < 4160
+  pub first : w .a ≡ freeAt (w .p) (view l) 0
+  pub second : w .q ≡ freeAt (w .p) (view l) 1
+  pub f-in : Block l (w .f)
+  pub a-in : Block l (w .a)
+  pub q-in : Block l (w .q)
 
--- besides, the PIB s, and g the first free block afterwards; the write takes m blocks
-pub record Appends (d : ℕ) (l : List ℕ) (s e f n a q g m : ℕ) : Type 0 where
-  pub file : Growing d l s e f n a q
-  pub s-in : Block l s
-  pub g-in : Block l g
-  pub after : g ≡ freeAt (partitionOf d s e) (view l) (takes n)
-  pub many : m ≡ takes n
+-- besides, the PIB, the first free block afterwards, and how many blocks the write takes
+pub record Appends (w : Append) (l : List ℕ) : Type 0 where
+  pub file : Growing w l
+  pub s-in : Block l (w .p .s)
+  pub g-in : Block l (w .g)
+  pub after : w .g ≡ freeAt (w .p) (view l) (takes (w .n))
+  pub many : w .m ≡ takes (w .n)
 
 module _ (π : Partition) (v : View) (f n : ℕ) where
   -- the block of key k with the record x, linked to its neighbours

@@ -11,7 +11,8 @@ use Rattle.image.specs.View.{View}
 use Rattle.volume.specs.Search.{seek, down}
 use Rattle.volume.specs.Keys.{home, first, low, span}
 use Rattle.volume.specs.KeyLaws.{first-data, first-pointer, first-doubles, low-home, low-pos}
-use Rattle.volume.specs.Files.{Partition, wellFormed, len, spot, present}
+use Rattle.volume.specs.Files.{wellFormed, len, spot, present}
+use Rattle.volume.specs.declared.Partition.{Partition}
 use Rattle.volume.specs.Index.{present-home}
 use Rattle.volume.specs.Closed.{hasKey, nextKey, prevKey, sizeOf, present-closed}
 use Rattle.volume.specs.Plans.{freeAt}
@@ -34,7 +35,7 @@ pub spot-old : (π : Partition) (v : View) (f n k : ℕ) → isNew π v f n k �
 unfolding spot′
 spot-old π v f n k h = ap (λ (t : Bool). pick t (fresh π v f n k) (spot π v f k)) h
 
-module _ (π : Partition) (v : View) (f n : ℕ) (wf : wellFormed π v f ≡ true) (next : n ≡ len π v f) (far : n < 4160) where
+module _ (π : Partition) (v : View) (f n : ℕ) (wf : wellFormed π v f ≡ true) (next : n ≡ len v f) (far : n < 4160) where
   -- the file as it is has the keys of n blocks
   here : (k : ℕ) → present π v f k ≡ hasKey n k
   here k = present-closed π v f wf k ∙ ap (λ (m : ℕ). hasKey m k) (sym next)

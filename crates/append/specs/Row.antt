@@ -12,7 +12,8 @@ use Rattle.base.specs.Laws.{and-left, and-right}
 use Rattle.image.specs.View.{View, Rec, Store}
 use Rattle.volume.specs.Keys.{home, low}
 use Rattle.volume.specs.KeyLaws.{low-home}
-use Rattle.volume.specs.Files.{Partition, wellFormed, len, end}
+use Rattle.volume.specs.Files.{wellFormed, len, end}
+use Rattle.volume.specs.declared.Partition.{Partition}
 use Rattle.volume.specs.Closed.{least-closed}
 use Rattle.volume.specs.Plans.{st, stores, freeAt, newFirst, pibLess, takenStores}
 use Rattle.volume.specs.Writes.{over, inner, isNew, early, body, grown, store, planOf, writePlan}
@@ -43,7 +44,7 @@ inner-none : inner [] ≡ []
 unfolding inner
 inner-none = refl
 
-module _ (π : Partition) (v : View) (f n : ℕ) (wf : wellFormed π v f ≡ true) (next : n ≡ len π v f) (far : n < 4160) where
+module _ (π : Partition) (v : View) (f n : ℕ) (wf : wellFormed π v f ≡ true) (next : n ≡ len v f) (far : n < 4160) where
   -- the keys before the FIB's
   early-is : early π v f n
       ≡ (292 + n) ∷ (pick (ltb n 64) [] (low (n + 1) ∷ []) ++ (pick (ltb 0 n) ((home + n) ∷ []) [] ++ pick (grows n && ltb (low n) home) (low n ∷ []) []))
@@ -52,7 +53,7 @@ module _ (π : Partition) (v : View) (f n : ℕ) (wf : wellFormed π v f ≡ tru
       ap₂ (λ (k : ℕ) (ks : List ℕ). k ∷ ks) (over-zero n)
       (inner-cons (over n 1) (ltb n 64) _ (direct (ltb n 64) refl)
       ∙ ap₂ _++_ (pointer (ltb n 64) refl)
-      (inner-cons (end π v f) (eqb n 0) _ (ap (λ (m : ℕ). eqb (home + m) home) (sym next) ∙ empty (eqb n 0) refl)
+      (inner-cons (end v f) (eqb n 0) _ (ap (λ (m : ℕ). eqb (home + m) home) (sym next) ∙ empty (eqb n 0) refl)
       ∙ ap₂ _++_ (last (eqb n 0) refl)
       (ap₂ (λ (m k : ℕ). inner (pick (leb 2 m) (k ∷ []) [])) (needs-is π v f n wf next far) (least-closed π v f wf ∙ ap low (sym next)) ∙ top (grows n) (ltb (low n) home) refl)))
     where
@@ -70,7 +71,7 @@ module _ (π : Partition) (v : View) (f n : ℕ) (wf : wellFormed π v f ≡ tru
       empty true q = eq-eqb (home + n) home (omega (arith, eqb-true n 0 q))
       empty false q = ne-eqb (home + n) home (λ z. eqb-false n 0 q (omega arith))
 
-      last : (t : Bool) → eqb n 0 ≡ t → pick t [] (end π v f ∷ []) ≡ pick (ltb 0 n) ((home + n) ∷ []) []
+      last : (t : Bool) → eqb n 0 ≡ t → pick t [] (end v f ∷ []) ≡ pick (ltb 0 n) ((home + n) ∷ []) []
       last true q = ap (λ (u : Bool). pick u ((home + n) ∷ []) []) (sym (le-ltb 0 n (omega (arith, eqb-true n 0 q))))
       last false q =
           ap (λ (m : ℕ). (home + m) ∷ []) (sym next)

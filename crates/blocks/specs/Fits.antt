@@ -9,13 +9,14 @@ use lib.Dec.{ltb, eqb}
 use borrow.Author.Tests.{eqb-false}
 use Rattle.base.specs.Tests.{pick}
 use Rattle.base.specs.Tests as tests
-use Rattle.drive.specs.Address.{pda}
+use Rattle.drive.specs.Address.{pda, orNil}
 use Rattle.drive.specs.Fits.{pda-small}
 use Rattle.image.specs.View.{View}
 use Rattle.image.specs.Image.{view, Bytes}
 use Rattle.image.specs.Stores.{Fits}
 use Rattle.volume.specs.Keys.{home}
-use Rattle.volume.specs.Files.{Partition, len, spot, present, wellFormed, fileOf, key, owned, unowned, above, below, link, orNil}
+use Rattle.volume.specs.Files.{len, spot, present, wellFormed, fileOf, key, owned, unowned, above, below, link}
+use Rattle.volume.specs.declared.Partition.{Partition}
 use Rattle.volume.specs.Reads.{inside-of}
 use Rattle.volume.specs.Index.{own, member, file-candidate, file-formed, present-low, present-high}
 use Rattle.volume.specs.Order.{above-is, below-is}
@@ -33,9 +34,9 @@ pick-small false x y n h k = k
 module _ (π : Partition) (v : View) (few : π .e < 69552) where
   content-fits : (b : ℕ) → Fits (v b) → Fits (content π v b)
   unfolding content shaped
-  content-fits b h = go (ltb (key π v b) home)
+  content-fits b h = go (ltb (key v b) home)
     where
-      go : (t : Bool) → Fits (pick t (trimmed (len π v (fileOf π v b)) (key π v b) (v b)) (v b))
+      go : (t : Bool) → Fits (pick t (trimmed (len v (fileOf π v b)) (key v b) (v b)) (v b))
       go true = trimmed-fits _ _ h
       go false = h
 
@@ -57,11 +58,11 @@ module _ (π : Partition) (v : View) (few : π .e < 69552) where
             let m = member π v f (file-candidate π v f (own π v b o .file)) formed k (h (eqb-false k 0 q)) in
             pda-small (π .drive) _ (omega (arith, inside-of π _ (m .ins) .1))
 
-    pub next-small : link π v f (above π v f (key π v b)) < 4294967296
-    next-small = link-small _ (λ n. above-is π v f formed (key π v b) (present-high π v f _ (own π v b o .here)) .hit n .0)
+    pub next-small : link π v f (above π v f (key v b)) < 4294967296
+    next-small = link-small _ (λ n. above-is π v f formed (key v b) (present-high π v f _ (own π v b o .here)) .hit n .0)
 
-    pub prev-small : link π v f (below π v f (key π v b)) < 4294967296
-    prev-small = link-small _ (λ n. below-is π v f formed (key π v b) (present-low π v f _ (own π v b o .here)) .hit n .0)
+    pub prev-small : link π v f (below π v f (key v b)) < 4294967296
+    prev-small = link-small _ (λ n. below-is π v f formed (key v b) (present-low π v f _ (own π v b o .here)) .hit n .0)
 
   -- the record that repair stores in block b
   pub repaired-fits : (b : ℕ) → π .s < b → b ≤ π .e → Fits (v b) → Fits (repaired π v (unowned π v) b)
@@ -71,7 +72,7 @@ module _ (π : Partition) (v : View) (few : π .e < 69552) where
       P : ℕ → Bool
       P x = not (owned π v x)
 
-      nil-or : (x : ℕ) → x ≤ π .e → orNil π x < 4294967296
+      nil-or : (x : ℕ) → x ≤ π .e → orNil (π .drive) x < 4294967296
       nil-or x q = pick-small (eqb x 0) 0 (pda (π .drive) x) 4294967296 (omega arith) (pda-small (π .drive) x (omega arith))
 
       up : tests.above b (unowned π v) ≤ π .e

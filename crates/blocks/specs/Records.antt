@@ -20,10 +20,6 @@ use Rattle.volume.specs.KeyLaws.{child-pair}
 use Rattle.volume.specs.Closed.{hasKey, entriesOf, entry-asked, has-only}
 use Rattle.volume.specs.Plans.{trimmed, shaped}
 
--- the PDA of block b on drive d, or nil for 0
-abbrev pub linkTo : ℕ → ℕ → ℕ
-linkTo d b = pick (eqb b 0) 0 (pda d b)
-
 -- a record whose words from a on are nil
 unfoldable pub cleared : ℕ → Rec → Rec
 cleared a r w = pick (leb a w) 0 (r w)

@@ -8,7 +8,8 @@ use Rattle.image.specs.View.{pair, put2}
 use Rattle.image.specs.Image.{view}
 use Rattle.volume.specs.Words.{serialAt, relativeAt, nextAt, previousAt}
 use Rattle.volume.specs.Keys.{keyOf}
-use Rattle.volume.specs.Files.{Partition, len, present, candidate, fileOf, key, owned, above, below, link}
+use Rattle.volume.specs.Files.{len, present, candidate, fileOf, key, owned, above, below, link}
+use Rattle.volume.specs.declared.Partition.{Partition}
 use Rattle.volume.specs.Reads.{candidate-in}
 use Rattle.volume.specs.Index.{own, file-candidate}
 use Rattle.volume.specs.Closed.{hasKey, present-closed}
@@ -42,7 +43,7 @@ module _ {π : Partition} {l : List ℕ} (b : ℕ) {x f : ℕ} (r : Ready π l) 
   pub file-in : f ≤ π .e
   file-in = candidate-in π (view l) f is-candidate .1
 
-  pub filed : {n k : ℕ} → n ≡ len π (view l) f → k ≡ keyOf (view l b relativeAt) → Filed π l b f n k
+  pub filed : {n k : ℕ} → n ≡ len (view l) f → k ≡ keyOf (view l b relativeAt) → Filed π l b f n k
   unfolding key relinked content
   filed {n} {k} hn hk =
       let opens = opened (r .lies) (r .none) f is-candidate in

@@ -3,41 +3,25 @@ ghost use mathlib.Core.Path.{_≡_};
 ghost use mathlib.Core.Bool.{true};
 ghost use Prim.Native.Nat.{_+_, _*_, _≤_, _<_};
 ghost use lib.ListN.{length};
-ghost use Rattle.drive.specs.Address.{lda};
+ghost use Rattle.drive.specs.Address.{lda, orNil};
 ghost use Rattle.image.specs.View.{put, put2};
 ghost use Rattle.image.specs.Image.{view, recOf};
 ghost use Rattle.volume.specs.Words.{serialAt, fillerAt, nextAt, previousAt, freeHeadAt, freeTailAt, numberFreeAt};
 ghost use Rattle.volume.specs.Files.{partitionOf, owned};
 ghost use Rattle.volume.specs.Closed.{hasKey};
 ghost use Rattle.volume.specs.Plans.{asFiller, trimmed, shaped, relinked};
-ghost use Rattle.blocks.specs.Records.{linkTo, cleared};
+ghost use Rattle.blocks.specs.Records.{cleared};
 ghost use Rattle.blocks.specs.Ready.{Ready};
 use inspect::HOME;
-
-// Words of a header, of a pointer block and of a PIB.
-const SERIAL: usize = 0;
-
-const FILLER: usize = 3;
-
-const NEXT: usize = 4;
-
-const PREVIOUS: usize = 6;
-
-const SLOTS: usize = 8;
-
-const FREE_HEAD: usize = 8;
-
-const FREE_TAIL: usize = 10;
-
-const NUMBER_FREE: usize = 12;
-
-// The physical address of block b, or nil for 0.
-fn link_to(drive: usize, b: usize) -> usize
-    requires { ⌜ b < 69552 ⌝ }
-    ensures { λ r. ⌜ (r ≡ linkTo drive b) × (r < 4294967296) ⌝ }
-{
-    if b == 0 { 0 } else { drive::pda(drive, b) }
-}
+use volume::Partition;
+use volume::words::FILLER;
+use volume::words::FREE_HEAD;
+use volume::words::FREE_TAIL;
+use volume::words::NEXT;
+use volume::words::NUMBER_FREE;
+use volume::words::PREVIOUS;
+use volume::words::SERIAL;
+use volume::words::SLOTS;
 
 // The record of an unowned block of the chain that begins at `first`: no serial, the filler of the first, and its neighbours.
 pub fn freed(
@@ -49,11 +33,11 @@ pub fn freed(
     below: usize,
 ) -> [u8; 528]
     requires { ⌜ (528 * b + 528 ≤ length (now img)) × (above < 69552) × (below < 69552) ⌝ }
-    ensures { λ r. ⌜ recOf r ≡ put2 serialAt 0 (put fillerAt (asFiller first) (put2 nextAt (linkTo drive above) (put2 previousAt (linkTo drive below) (view (now (img .entry)) b)))) ⌝ }
+    ensures { λ r. ⌜ recOf r ≡ put2 serialAt 0 (put fillerAt (asFiller first) (put2 nextAt (orNil drive above) (put2 previousAt (orNil drive below) (view (now (img .entry)) b)))) ⌝ }
 {
     let x = image::record(img, b);
-    let x = image::with_pair(x, PREVIOUS, link_to(drive, below));
-    let x = image::with_pair(x, NEXT, link_to(drive, above));
+    let x = image::with_pair(x, PREVIOUS, drive::or_nil(drive, below));
+    let x = image::with_pair(x, NEXT, drive::or_nil(drive, above));
     let x = image::with_word(x, FILLER, first % 65536);
     image::with_pair(x, SERIAL, 0)
 }
@@ -102,15 +86,15 @@ fn content(img: &[u8], b: usize, n: usize, k: usize) -> [u8; 528]
 }
 
 // The record of an owned block, with the links of its key in its file.
-pub fn relinked(img: &[u8], drive: usize, s: usize, e: usize, b: usize) -> [u8; 528]
-    requires { ⌜ (Ready (partitionOf drive s e) (now img)) × (b ≤ e) × (owned (partitionOf drive s e) (view (now img)) b ≡ true) ⌝ }
-    ensures { λ r. ⌜ recOf r ≡ relinked (partitionOf drive s e) (view (now (img .entry))) b ⌝ }
+pub fn relinked(img: &[u8], p: Partition, b: usize) -> [u8; 528]
+    requires { ⌜ (Ready p (now img)) × (b ≤ p .e) × (owned p (view (now img)) b ≡ true) ⌝ }
+    ensures { λ r. ⌜ recOf r ≡ relinked p (view (now (img .entry))) b ⌝ }
 {
-    let f = drive::pda_block(drive, image::pair(img, b, SERIAL));
+    let f = drive::pda_block(p.drive, image::pair(img, b, SERIAL));
     let k = links::key_in(img, b);
-    let n = inspect::len(img, drive, s, e, f);
-    let next = links::next_of(img, drive, s, e, f, n, k);
-    let previous = links::prev_of(img, drive, s, e, f, n, k);
+    let n = inspect::len(img, f);
+    let next = links::next_of(img, p, f, n, k);
+    let previous = links::prev_of(img, p, f, n, k);
     let x = content(img, b, n, k);
     let x = image::with_pair(x, PREVIOUS, previous);
     image::with_pair(x, NEXT, next)

@@ -17,7 +17,8 @@ use Rattle.image.specs.Image.{view}
 use Rattle.image.specs.Stores.{stored}
 use Rattle.image.specs.Saves.{Made}
 use Rattle.volume.specs.Words.{nextAt, numberFreeAt}
-use Rattle.volume.specs.Files.{Partition, partitionOf, candidate, free, freeHead, chain}
+use Rattle.volume.specs.Files.{partitionOf, candidate, free, freeHead, chain}
+use Rattle.volume.specs.declared.Partition.{Partition}
 use Rattle.volume.specs.Plans.{Plan, stores, freeAt, freeTail, takenStores, createPlan, describePlan}
 use Rattle.volume.specs.Calls.{Planned, refuse, finish, room, createIn, describeIn, Answered}
 use Rattle.volume.specs.Reads.{inside-of, candidate-in}
@@ -58,40 +59,40 @@ chain-few π v (suc n) b = go (eqb (pair v b nextAt) 0) refl (chain-few π v n _
 
 -- ---- behind the gate
 
-module _ {d : ℕ} {l : List ℕ} {s e : ℕ} (o : Opens d l s e) where
-  pub block-to : (b : ℕ) → b ≤ e → Block l b
+module _ {π : Partition} {l : List ℕ} (o : Opens π l) where
+  pub block-to : (b : ℕ) → b ≤ (π .e) → Block l b
   block-to = block-in (o .lies)
 
-  pub block-pib : Block l s
-  block-pib = block-to s (omega (arith, o .lies .order))
+  pub block-pib : Block l (π .s)
+  block-pib = block-to (π .s) (omega (arith, o .lies .order))
 
-  pub block-fib : (f : ℕ) → candidate (partitionOf d s e) (view l) f ≡ true → Block l f
-  block-fib f c = block-to f (candidate-in (partitionOf d s e) (view l) f c .1)
+  pub block-fib : (f : ℕ) → candidate π (view l) f ≡ true → Block l f
+  block-fib f c = block-to f (candidate-in π (view l) f c .1)
 
-  pub block-free : (b : ℕ) → 0 < occ b (free (partitionOf d s e) (view l)) → Block l b
-  block-free b h = block-to b (inside-of (partitionOf d s e) b (free-in (partitionOf d s e) (view l) (o .sound) b h) .1)
+  pub block-free : (b : ℕ) → 0 < occ b (free π (view l)) → Block l b
+  block-free b h = block-to b (inside-of π b (free-in π (view l) (o .sound) b h) .1)
 
-  pub room-is : pair (view l) s numberFreeAt ≡ room (partitionOf d s e) (view l)
-  room-is = sound-number (partitionOf d s e) (view l) (o .sound)
+  pub room-is : pair (view l) (π .s) numberFreeAt ≡ room π (view l)
+  room-is = sound-number π (view l) (o .sound)
 
-  pub room-few : room (partitionOf d s e) (view l) < 69552
+  pub room-few : room π (view l) < 69552
   unfolding free
-  room-few = omega (arith, o .lies .few, chain-few (partitionOf d s e) (view l) (e - s) (freeHead (partitionOf d s e) (view l)))
+  room-few = omega (arith, o .lies .few, chain-few π (view l) ((π .e) - (π .s)) (freeHead π (view l)))
 
-  pub block-head : Block l (freeHead (partitionOf d s e) (view l))
-  block-head = block-free _ (head-free (partitionOf d s e) (view l) (o .sound))
+  pub block-head : Block l (freeHead π (view l))
+  block-head = block-free _ (head-free π (view l) (o .sound))
 
-  pub block-tail : Block l (freeTail (partitionOf d s e) (view l))
-  block-tail = block-free _ (tail-free (partitionOf d s e) (view l) (o .sound))
+  pub block-tail : Block l (freeTail π (view l))
+  block-tail = block-free _ (tail-free π (view l) (o .sound))
 
   -- the free block with place i
-  pub block-free-at : (i b : ℕ) → b ≡ freeAt (partitionOf d s e) (view l) i → i < room (partitionOf d s e) (view l) → Block l b
+  pub block-free-at : (i b : ℕ) → b ≡ freeAt π (view l) i → i < room π (view l) → Block l b
   block-free-at i b q h =
-      rw q (block-to _ (inside-of (partitionOf d s e) _ (taken (partitionOf d s e) (view l) (o .sound) (room (partitionOf d s e) (view l)) (omega arith) i h .0) .1))
+      rw q (block-to _ (inside-of π _ (taken π (view l) (o .sound) (room π (view l)) (omega arith) i h .0) .1))
 
   -- the index of a file can be read
-  pub file-opened : (f : ℕ) → candidate (partitionOf d s e) (view l) f ≡ true → Opened (partitionOf d s e) l f
-  file-opened f c = wf-opened f (o .lies) (candidate-in (partitionOf d s e) (view l) f c .1) (sound-clean (partitionOf d s e) (view l) (o .sound) f c)
+  pub file-opened : (f : ℕ) → candidate π (view l) f ≡ true → Opened π l f
+  file-opened f c = wf-opened f (o .lies) (candidate-in π (view l) f c .1) (sound-clean π (view l) (o .sound) f c)
 
 -- the free blocks, one behind the other
 pub free-first : (π : Partition) (v : View) (h : ℕ) → h ≡ freeHead π v → h ≡ freeAt π v 0

@@ -15,7 +15,8 @@ use Rattle.base.specs.declared.Refusal.the-variants.{NoCandidate, BadBlock, Ful
 use Rattle.image.specs.Image.{view}
 use Rattle.image.specs.Saves.{words}
 use Rattle.volume.specs.Keys.{reach}
-use Rattle.volume.specs.Files.{Partition, partitionOf, candidate, len}
+use Rattle.volume.specs.Files.{partitionOf, candidate, len}
+use Rattle.volume.specs.declared.Partition.{Partition}
 use Rattle.volume.specs.Writes as writes
 use Rattle.volume.specs.Calls.{Planned, refuse, through, room, createIn, appendIn, writeIn, create, write, planned}
 use Rattle.volume.specs.declared.Part.{Part}
@@ -28,7 +29,7 @@ use Rattle.change.specs.Gate.{gate, Opens, enters, shut, gate-number, go
 -- blocks than that plus one
 pub record Crowded (d : ℕ) (l : List ℕ) (s : ℕ) (fits : Bool) (asks : Partition → Bool) (needs : Partition → ℕ) : Type 0 where
   pub e : ℕ
-  pub opens : Opens d l s e
+  pub opens : Opens (partitionOf d s e) l
   pub fit : fits ≡ true
   pub asked : asks (partitionOf d s e) ≡ true
   pub few : room (partitionOf d s e) (view l) < needs (partitionOf d s e) + 1
@@ -86,7 +87,7 @@ module _ (d : ℕ) (l : List ℕ) (s kind : ℕ) where
 module _ (d : ℕ) (l : List ℕ) (s f r : ℕ) (block : List ℕ) where
   -- an append: neither 6 nor 7 applies, and the block is not there yet
   abbrev pub appends : Partition → Bool
-  appends π = every (candidate π (view l) f ∷ ltb r reach ∷ eqb r (len π (view l) f) ∷ [])
+  appends π = every (candidate π (view l) f ∷ ltb r reach ∷ eqb r (len (view l) f) ∷ [])
 
   -- the data block, and the pointer blocks over it that are new
   abbrev pub appendNeeds : Partition → ℕ
@@ -105,10 +106,10 @@ module _ (d : ℕ) (l : List ℕ) (s f r : ℕ) (block : List ℕ) where
 
   write-few : (π : Partition) → writeIn π (view l) f r (words block) .outcome ≡ Refused Full → (appends π ≡ true) × (room π (view l) < appendNeeds π + 1)
   unfolding writeIn
-  write-few π h = go (candidate π (view l) f) refl (ltb r reach) refl (ltb r (len π (view l) f)) refl (eqb r (len π (view l) f)) refl
+  write-few π h = go (candidate π (view l) f) refl (ltb r reach) refl (ltb r (len (view l) f)) refl (eqb r (len (view l) f)) refl
     where
-      go : (a : Bool) → candidate π (view l) f ≡ a → (b : Bool) → ltb r reach ≡ b → (c : Bool) → ltb r (len π (view l) f) ≡ c
-          → (t : Bool) → eqb r (len π (view l) f) ≡ t → (appends π ≡ true) × (room π (view l) < appendNeeds π + 1)
+      go : (a : Bool) → candidate π (view l) f ≡ a → (b : Bool) → ltb r reach ≡ b → (c : Bool) → ltb r (len (view l) f) ≡ c
+          → (t : Bool) → eqb r (len (view l) f) ≡ t → (appends π ≡ true) × (room π (view l) < appendNeeds π + 1)
       go true p true q false x true y =
           (every-cons _ p (every-cons _ q (every-cons _ y every-nil)), append-few π (rw (writeIn, p, q, x, y) at h))
       go true p true q true x t y = absurd (not-full _ _ _ (rw (writeIn, p, q, x) at h))
@@ -125,9 +126,9 @@ module _ (d : ℕ) (l : List ℕ) (s f r : ℕ) (block : List ℕ) where
   write-is-full π a n =
       let c : candidate π (view l) f ≡ true = every-at _ a 0 in
       let b : ltb r reach ≡ true = every-at _ a 1 in
-      let x : eqb r (len π (view l) f) ≡ true = every-at _ a 2 in
-      let y : len π (view l) f ≤ r = (let z = eqb-true r (len π (view l) f) x in omega arith) in
-      rw (writeIn, c, b, le-ltb r (len π (view l) f) y, x, appendIn, le-leb (room π (view l)) (appendNeeds π) (omega arith))
+      let x : eqb r (len (view l) f) ≡ true = every-at _ a 2 in
+      let y : len (view l) f ≤ r = (let z = eqb-true r (len (view l) f) x in omega arith) in
+      rw (writeIn, c, b, le-ltb r (len (view l) f) y, x, appendIn, le-leb (room π (view l)) (appendNeeds π) (omega arith))
 
   pub write-full : WriteCrowded → planned d l s (write f r block) ≡ refuse Full
   unfolding planned

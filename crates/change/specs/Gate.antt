@@ -11,7 +11,8 @@ use Rattle.base.specs.declared.Refusal.the-variants.{BadImage, BadPartition, Ba
 use Rattle.base.specs.Refusals.{number}
 use Rattle.image.specs.View.{View}
 use Rattle.image.specs.Image.{view}
-use Rattle.volume.specs.Files.{Partition, partitionOf, sound}
+use Rattle.volume.specs.Files.{partitionOf, sound}
+use Rattle.volume.specs.declared.Partition.{Partition}
 use Rattle.volume.specs.Answers.{imageGood, partGood, endOf, partition, lowestMalformed, Unmarred}
 use Rattle.volume.specs.Calls.{Planned, refuse, through}
 use Rattle.volume.specs.Reads.{Lies, lies}
@@ -45,15 +46,15 @@ abbrev pub completion : ℕ → ℕ → Answer
 completion a n = record { made = n; outcome = Done a 0 0 }
 
 -- what lies behind an open gate
-pub record Opens (d : ℕ) (l : List ℕ) (s e : ℕ) : Type 0 where
-  pub good : partition d l s ≡ part.Good e
-  pub lies : Lies d l s e
-  pub clean : Unmarred (partitionOf d s e) (view l)
-  pub sound : sound (partitionOf d s e) (view l) ≡ true
+pub record Opens (π : Partition) (l : List ℕ) : Type 0 where
+  pub good : partition (π .drive) l (π .s) ≡ part.Good (π .e)
+  pub lies : Lies π l
+  pub clean : Unmarred π (view l)
+  pub sound : sound π (view l) ≡ true
 
 -- a call goes through an open gate, and is refused at a shut one
 pub record Enters (d : ℕ) (l : List ℕ) (s : ℕ) (fits : Bool) (k : Partition → Planned) (e : ℕ) : Type 0 where
-  pub opens : Opens d l s e
+  pub opens : Opens (partitionOf d s e) l
   pub fit : fits ≡ true
   pub goes : through d l s fits k ≡ k (partitionOf d s e)
 
@@ -82,7 +83,7 @@ module _ (d : ℕ) (l : List ℕ) (s : ℕ) (fits : Bool) (k : Partition → Pla
       go (part.Good x) p false q = unequal BadBuffer e (sym (rw (p, gate, q)) ∙ h)
       go (part.Good x) p true q = inner x p q (lowestMalformed (partitionOf d s x) (view l)) refl (sound (partitionOf d s x) (view l)) refl
 
-  pub goes-through : (e : ℕ) → Opens d l s e → fits ≡ true → through d l s fits k ≡ k (partitionOf d s e)
+  pub goes-through : (e : ℕ) → Opens (partitionOf d s e) l → fits ≡ true → through d l s fits k ≡ k (partitionOf d s e)
   unfolding through
   goes-through e o q = rw (o .good, through, q, o .clean, o .sound)
 
@@ -135,5 +136,5 @@ gate-number d l s fits y h = go (partition d l s) refl fits refl
     go (part.Good x) p false q = is BadBuffer (sym (rw (p, gate, q)) ∙ h) (omega arith)
     go (part.Good x) p true q = inner x p q (lowestMalformed (partitionOf d s x) (view l)) refl (sound (partitionOf d s x) (view l)) refl
 
-pub gate-opens : (d : ℕ) (l : List ℕ) (s : ℕ) (fits : Bool) (e : ℕ) → gate d l s fits ≡ part.Good e → (Opens d l s e) × (fits ≡ true)
+pub gate-opens : (d : ℕ) (l : List ℕ) (s : ℕ) (fits : Bool) (e : ℕ) → gate d l s fits ≡ part.Good e → (Opens (partitionOf d s e) l) × (fits ≡ true)
 gate-opens d l s fits e h = let x = enters d l s fits (λ π. refuse Unsound) e h in (x .opens, x .fit)

@@ -14,7 +14,8 @@ use Rattle.base.specs.Laws.{both-of}
 use Rattle.image.specs.View.{View, Store, places}
 use Rattle.volume.specs.Keys.{home}
 use Rattle.volume.specs.KeyLaws.{low-home}
-use Rattle.volume.specs.Files.{Partition, inside, candidate, wellFormed, isFile, len, end, spot, present, least, owned, sound, free}
+use Rattle.volume.specs.Files.{inside, candidate, wellFormed, isFile, len, end, spot, present, least, owned, sound, free}
+use Rattle.volume.specs.declared.Partition.{Partition}
 use Rattle.volume.specs.Index.{Names, named-owned, one-key, owned-in, wf-of, spot-home, present-home}
 use Rattle.volume.specs.Order.{least-present}
 use Rattle.volume.specs.Closed.{least-closed}
@@ -124,7 +125,7 @@ module _ (π : Partition) (v : View) (ok : sound π v ≡ true) (f : ℕ) (c : c
   top = spot π v f (least π v f)
 
   abbrev pub last : ℕ
-  last = spot π v f (end π v f)
+  last = spot π v f (end v f)
 
   formed : wellFormed π v f ≡ true
   formed = sound-clean π v ok f c
@@ -150,7 +151,7 @@ module _ (π : Partition) (v : View) (ok : sound π v ≡ true) (f : ℕ) (c : c
       go false x false y = omega arith
 
   -- the first in link order where it is not the FIB, the last where it is not, and the FIB: none twice
-  pub file-hits : (u w : Bool) → eqb (least π v f) home ≡ u → eqb (len π v f) 0 ≡ w
+  pub file-hits : (u w : Bool) → eqb (least π v f) home ≡ u → eqb (len v f) 0 ≡ w
       → pick u 0 (hit b top) + (pick w 0 (hit b last) + hit b f) ≤ bit (owned π v b)
   file-hits u w hu hw = go u hu w hw
     where
@@ -160,27 +161,27 @@ module _ (π : Partition) (v : View) (ok : sound π v ≡ true) (f : ℕ) (c : c
       p-least : present π v f (least π v f) ≡ true
       p-least = least-present π v f formed .1
 
-      p-last : present π v f (end π v f) ≡ true
+      p-last : present π v f (end v f) ≡ true
       p-last = wf-of π v f formed .ends
 
       p-home : present π v f home ≡ true
       p-home = present-home π v f
 
       under : least π v f ≤ home
-      under = omega (arith, least-closed π v f formed, low-home (len π v f))
+      under = omega (arith, least-closed π v f formed, low-home (len v f))
 
       top-fib : eqb (least π v f) home ≡ false → hit b top + hit b f ≤ 1
       top-fib q = omega (arith, fib, two (least π v f) home p-least p-home (eqb-false (least π v f) home q))
 
-      last-fib : eqb (len π v f) 0 ≡ false → hit b last + hit b f ≤ 1
-      last-fib q = omega (arith, fib, two (end π v f) home p-last p-home (λ z. omega (arith, eqb-false (len π v f) 0 q)))
+      last-fib : eqb (len v f) 0 ≡ false → hit b last + hit b f ≤ 1
+      last-fib q = omega (arith, fib, two (end v f) home p-last p-home (λ z. omega (arith, eqb-false (len v f) 0 q)))
 
-      top-last : eqb (len π v f) 0 ≡ false → hit b top + hit b last ≤ 1
-      top-last q = two (least π v f) (end π v f) p-least p-last (λ z. omega (arith, under, eqb-false (len π v f) 0 q))
+      top-last : eqb (len v f) 0 ≡ false → hit b top + hit b last ≤ 1
+      top-last q = two (least π v f) (end v f) p-least p-last (λ z. omega (arith, under, eqb-false (len v f) 0 q))
 
-      go : (u : Bool) → eqb (least π v f) home ≡ u → (w : Bool) → eqb (len π v f) 0 ≡ w
+      go : (u : Bool) → eqb (least π v f) home ≡ u → (w : Bool) → eqb (len v f) 0 ≡ w
           → pick u 0 (hit b top) + (pick w 0 (hit b last) + hit b f) ≤ bit (owned π v b)
       go true p true q = omega (arith, fib, one home p-home)
-      go true p false q = omega (arith, fib, one home p-home, one (end π v f) p-last, last-fib q)
+      go true p false q = omega (arith, fib, one home p-home, one (end v f) p-last, last-fib q)
       go false p true q = omega (arith, fib, one home p-home, one (least π v f) p-least, top-fib p)
-      go false p false q = omega (arith, fib, one home p-home, one (least π v f) p-least, one (end π v f) p-last, top-fib p, last-fib q, top-last q)
+      go false p false q = omega (arith, fib, one home p-home, one (least π v f) p-least, one (end v f) p-last, top-fib p, last-fib q, top-last q)

@@ -16,7 +16,8 @@ use Rattle.image.specs.Image.{view}
 use Rattle.image.specs.Saves.{words}
 use Rattle.volume.specs.Words.{nextAt}
 use Rattle.volume.specs.Keys.{home, reach}
-use Rattle.volume.specs.Files.{Partition, partitionOf, candidate, len, end, spot, least, size, sound, freeHead}
+use Rattle.volume.specs.Files.{partitionOf, candidate, len, end, spot, least, size, sound, freeHead}
+use Rattle.volume.specs.declared.Partition.{Partition}
 use Rattle.volume.specs.Plans.{st, stores, newFirst, pibLess, gone, topGone, pibMore, topGoneStores, lastGoneStores, destroyed, freeAt, freeTail, takenStores, createPlan, describePlan, destroyPlan}
 use Rattle.volume.specs.Writes.{needs, writePlan, replacePlan}
 use Rattle.volume.specs.Calls.{Planned, refuse, finish, through, room, Call, create, write, describe, destroy, repair, createIn, appendIn, writeIn, describeIn, destroyIn, planned}
@@ -83,13 +84,13 @@ module _ (π : Partition) (v : View) (ok : sound π v ≡ true) where
       alone = eqb (least π v f) home
 
       empty : Bool
-      empty = eqb (len π v f) 0
+      empty = eqb (len v f) 0
 
       x : Store
       x = let b = spot π v f (least π v f) in st b (topGone (π .drive) v (freeHead π v) (freeTail π v) b)
 
       y : Store
-      y = let b = spot π v f (end π v f) in st b (gone (π .drive) v (freeHead π v) b)
+      y = let b = spot π v f (end v f) in st b (gone (π .drive) v (freeHead π v) b)
 
       tops : List Store
       tops = pick alone [] (x ∷ [])
@@ -101,12 +102,12 @@ module _ (π : Partition) (v : View) (ok : sound π v ≡ true) where
       tail = st (freeTail π v) (put2 nextAt (pda (π .drive) (spot π v f (least π v f))) (v (freeTail π v)))
 
       pib : Store
-      pib = st (π .s) (pibMore (π .drive) v (π .s) (spot π v f (end π v f)) (size π v f))
+      pib = st (π .s) (pibMore (π .drive) v (π .s) (spot π v f (end v f)) (size π v f))
 
       ends : List Store
       ends = tail ∷ pib ∷ []
 
-  write-orderly : (f r : ℕ) (dat : Rec) → candidate π v f ≡ true → r ≡ len π v f → r < reach → needs π v f r < room π v → Orderly (stores (writePlan π v f r dat))
+  write-orderly : (f r : ℕ) (dat : Rec) → candidate π v f ≡ true → r ≡ len v f → r < reach → needs π v f r < room π v → Orderly (stores (writePlan π v f r dat))
   write-orderly f r dat c q m n = record { few = write-few π v f r w dat; once = write-once π v f r w dat }
     where
       w : Writing π v f r
@@ -115,14 +116,14 @@ module _ (π : Partition) (v : View) (ok : sound π v ≡ true) where
 -- ---- the calls
 
 module _ (d : ℕ) (l : List ℕ) (s : ℕ) where
-  through-orderly : (fits : Bool) (k : Partition → Planned) → ((e : ℕ) → Opens d l s e → Orderly (k (partitionOf d s e) .list)) → Orderly (through d l s fits k .list)
+  through-orderly : (fits : Bool) (k : Partition → Planned) → ((e : ℕ) → Opens (partitionOf d s e) l → Orderly (k (partitionOf d s e) .list)) → Orderly (through d l s fits k .list)
   through-orderly fits k inner = go (gate d l s fits) refl
     where
       go : (p : Part) → gate d l s fits ≡ p → Orderly (through d l s fits k .list)
       go (part.Good e) q = let x = enters d l s fits k e q in rw (x .goes) (inner e (x .opens))
       go (part.Refused y) q = rw (shut d l s fits k y q) no-store
 
-  module _ (e : ℕ) (o : Opens d l s e) where
+  module _ (e : ℕ) (o : Opens (partitionOf d s e) l) where
     create-in : (kind : ℕ) → Orderly (createIn (partitionOf d s e) (view l) kind .list)
     unfolding createIn
     create-in kind = go (leb (room (partitionOf d s e) (view l)) 1) refl
@@ -131,7 +132,7 @@ module _ (d : ℕ) (l : List ℕ) (s : ℕ) where
         go true q = rw (createIn, q) no-store
         go false q = rw (createIn, q) (create-orderly (partitionOf d s e) (view l) (o .sound) kind (leb-false (room (partitionOf d s e) (view l)) 1 q))
 
-    append-in : (f r : ℕ) (dat : Rec) → candidate (partitionOf d s e) (view l) f ≡ true → r ≡ len (partitionOf d s e) (view l) f → r < reach
+    append-in : (f r : ℕ) (dat : Rec) → candidate (partitionOf d s e) (view l) f ≡ true → r ≡ len (view l) f → r < reach
         → Orderly (appendIn (partitionOf d s e) (view l) f r dat .list)
     unfolding appendIn
     append-in f r dat c q m = go (leb (room (partitionOf d s e) (view l)) (needs (partitionOf d s e) (view l) f r)) refl
@@ -146,9 +147,9 @@ module _ (d : ℕ) (l : List ℕ) (s : ℕ) where
 
     write-in : (f r : ℕ) (dat : Rec) → Orderly (writeIn (partitionOf d s e) (view l) f r dat .list)
     unfolding writeIn
-    write-in f r dat = go (candidate (partitionOf d s e) (view l) f) refl (ltb r reach) refl (ltb r (len (partitionOf d s e) (view l) f)) (eqb r (len (partitionOf d s e) (view l) f)) refl
+    write-in f r dat = go (candidate (partitionOf d s e) (view l) f) refl (ltb r reach) refl (ltb r (len (view l) f)) (eqb r (len (view l) f)) refl
       where
-        go : (c : Bool) → candidate (partitionOf d s e) (view l) f ≡ c → (x : Bool) → ltb r reach ≡ x → (y z : Bool) → eqb r (len (partitionOf d s e) (view l) f) ≡ z
+        go : (c : Bool) → candidate (partitionOf d s e) (view l) f ≡ c → (x : Bool) → ltb r reach ≡ x → (y z : Bool) → eqb r (len (view l) f) ≡ z
             → Orderly ((pick c (pick x (pick y (finish 0 (replacePlan (partitionOf d s e) (view l) f r dat)) (pick z (appendIn (partitionOf d s e) (view l) f r dat) (refuse BadBlock))) (refuse BadBlock)) (refuse NoCandidate)) .list)
         go true c true m true z q = replace-one f r dat
         go true c true m false true q = append-in f r dat c (eqb-true r _ q) (ltb-true r reach m)

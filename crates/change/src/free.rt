@@ -9,33 +9,34 @@ ghost use Rattle.volume.specs.Plans.{freeTail};
 ghost use Rattle.volume.specs.Calls.{room};
 ghost use Rattle.records.specs.Records.{Block};
 ghost use Rattle.change.specs.Gate.{Opens};
-use records::words::FREE_HEAD;
-use records::words::FREE_TAIL;
-use records::words::NEXT;
-use records::words::NUMBER_FREE;
+use volume::Partition;
+use volume::words::FREE_HEAD;
+use volume::words::FREE_TAIL;
+use volume::words::NEXT;
+use volume::words::NUMBER_FREE;
 
 // How many blocks are free.
-pub fn room(img: &[u8], drive: usize, s: usize, e: usize) -> usize
-    requires { ⌜ Opens drive (now img) s e ⌝ }
-    ensures { λ m. ⌜ m ≡ room (partitionOf drive s e) (view (now (img .entry))) ⌝ }
+pub fn room(img: &[u8], p: Partition) -> usize
+    requires { ⌜ Opens p (now img) ⌝ }
+    ensures { λ m. ⌜ m ≡ room p (view (now (img .entry))) ⌝ }
 {
-    image::pair(img, s, NUMBER_FREE)
+    image::pair(img, p.s, NUMBER_FREE)
 }
 
 // The first free block.
-pub fn head(img: &[u8], drive: usize, s: usize, e: usize) -> usize
-    requires { ⌜ Opens drive (now img) s e ⌝ }
-    ensures { λ h. ⌜ (h ≡ freeHead (partitionOf drive s e) (view (now (img .entry)))) × (Block (now (img .entry)) h) ⌝ }
+pub fn head(img: &[u8], p: Partition) -> usize
+    requires { ⌜ Opens p (now img) ⌝ }
+    ensures { λ h. ⌜ (h ≡ freeHead p (view (now (img .entry)))) × (Block (now (img .entry)) h) ⌝ }
 {
-    drive::lda_block(drive, image::pair(img, s, FREE_HEAD))
+    drive::lda_block(p.drive, image::pair(img, p.s, FREE_HEAD))
 }
 
 // The last free block.
-pub fn tail(img: &[u8], drive: usize, s: usize, e: usize) -> usize
-    requires { ⌜ Opens drive (now img) s e ⌝ }
-    ensures { λ t. ⌜ (t ≡ freeTail (partitionOf drive s e) (view (now (img .entry)))) × (Block (now (img .entry)) t) ⌝ }
+pub fn tail(img: &[u8], p: Partition) -> usize
+    requires { ⌜ Opens p (now img) ⌝ }
+    ensures { λ t. ⌜ (t ≡ freeTail p (view (now (img .entry)))) × (Block (now (img .entry)) t) ⌝ }
 {
-    drive::lda_block(drive, image::pair(img, s, FREE_TAIL))
+    drive::lda_block(p.drive, image::pair(img, p.s, FREE_TAIL))
 }
 
 // The block that the next link of block b names.

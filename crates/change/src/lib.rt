@@ -13,6 +13,7 @@ use volume::Answer;
 use volume::Found;
 use volume::Outcome;
 use volume::Part;
+use volume::Partition;
 
 pub mod free; // free.rt: the free chain
 
@@ -48,10 +49,10 @@ pub fn enter(img: &[u8], drive: usize, s: usize, fits: bool) -> Part
             if !fits {
                 return Part::Refused(Refusal::BadBuffer);
             }
-            if verify::is_sound(img, drive, s, e) {
+            if verify::is_sound(img, Partition { drive, s, e }) {
                 return Part::Good(e);
             }
-            let x = inspect::lowest_malformed(img, drive, s, e);
+            let x = inspect::lowest_malformed(img, Partition { drive, s, e });
             match x {
                 Found::At(f) => Part::Refused(Refusal::Malformed(f)),
                 Found::Nothing => Part::Refused(Refusal::Unsound),
@@ -61,42 +62,27 @@ pub fn enter(img: &[u8], drive: usize, s: usize, fits: bool) -> Part
 }
 
 // Describe in a sound partition: 6.
-fn describe_open(
-    img: &mut [u8],
-    drive: usize,
-    s: usize,
-    e: usize,
-    f: usize,
-    text: &[u8],
-    limit: usize,
-) -> Answer
-    requires { ⌜ (Opens drive (now img) s e) × (length (now text) ≡ 104) ⌝ }
-    ensures { λ a. ⌜ Answered limit (describeIn (partitionOf drive s e) (view (now (img .entry))) f (words (now (text .entry)))) (now (img .entry)) (now (img .exit)) a ⌝ }
+fn describe_open(img: &mut [u8], p: Partition, f: usize, text: &[u8], limit: usize) -> Answer
+    requires { ⌜ (Opens p (now img)) × (length (now text) ≡ 104) ⌝ }
+    ensures { λ a. ⌜ Answered limit (describeIn p (view (now (img .entry))) f (words (now (text .entry)))) (now (img .entry)) (now (img .exit)) a ⌝ }
 {
-    if !inspect::candidate(img, drive, s, e, f) {
+    if !inspect::candidate(img, p, f) {
         return refused(Refusal::NoCandidate);
     }
     done(0, records::describe_store(img, f, text, limit))
 }
 
 // Create in a sound partition: 8.
-fn create_open(
-    img: &mut [u8],
-    drive: usize,
-    s: usize,
-    e: usize,
-    kind: usize,
-    limit: usize,
-) -> Answer
-    requires { ⌜ (Opens drive (now img) s e) × (kind < 65536) ⌝ }
-    ensures { λ a. ⌜ Answered limit (createIn (partitionOf drive s e) (view (now (img .entry))) kind) (now (img .entry)) (now (img .exit)) a ⌝ }
+fn create_open(img: &mut [u8], p: Partition, kind: usize, limit: usize) -> Answer
+    requires { ⌜ (Opens p (now img)) × (kind < 65536) ⌝ }
+    ensures { λ a. ⌜ Answered limit (createIn p (view (now (img .entry))) kind) (now (img .entry)) (now (img .exit)) a ⌝ }
 {
-    if free::room(img, drive, s, e) <= 1 {
+    if free::room(img, p) <= 1 {
         return refused(Refusal::Full);
     }
-    let h = free::head(img, drive, s, e);
-    let g = free::next(img, drive, h);
-    let n = records::create_store(img, drive, s, h, g, kind, limit);
+    let h = free::head(img, p);
+    let g = free::next(img, p.drive, h);
+    let n = records::create_store(img, p.drive, p.s, h, g, kind, limit);
     done(h, n)
 }
 
@@ -120,7 +106,7 @@ pub fn describe(
 {
     let g = enter(img, drive, s, text.len() == 104);
     match g {
-        Part::Good(e) => describe_open(img, drive, s, e, f, text, limit),
+        Part::Good(e) => describe_open(img, Partition { drive, s, e }, f, text, limit),
         Part::Refused(why) => refused(why),
     }
 }
@@ -132,7 +118,7 @@ pub fn create(img: &mut [u8], drive: usize, s: usize, kind: u16, limit: usize) -
     let word = wide(kind);
     let g = enter(img, drive, s, true);
     match g {
-        Part::Good(e) => create_open(img, drive, s, e, word, limit),
+        Part::Good(e) => create_open(img, Partition { drive, s, e }, word, limit),
         Part::Refused(why) => refused(why),
     }
 }

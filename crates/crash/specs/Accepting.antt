@@ -13,7 +13,8 @@ use Rattle.base.specs.Tests.{pick}
 use Rattle.image.specs.View.{View}
 use Rattle.image.specs.Saves.{words}
 use Rattle.image.specs.Image.{view, Bytes}
-use Rattle.volume.specs.Files.{Partition, partitionOf, unowned, freeHead, sound}
+use Rattle.volume.specs.Files.{partitionOf, unowned, freeHead, sound}
+use Rattle.volume.specs.declared.Partition.{Partition}
 use Rattle.volume.specs.Frame.{Clean}
 use Rattle.volume.specs.Plans.{repairPlan}
 use Rattle.frame.specs.Sound.{sound-clean}

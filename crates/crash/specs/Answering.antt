@@ -12,7 +12,7 @@ use borrow.Author.Tests.{ltb-true, ltb-false, lt-ltb}
 use Rattle.base.specs.Tests.{pick}
 use Rattle.image.specs.View.{View, Store}
 use Rattle.image.specs.Stores.{stored}
-use Rattle.volume.specs.Files.{Partition}
+use Rattle.volume.specs.declared.Partition.{Partition}
 use Rattle.volume.specs.Plans.{Plan, stores}
 use lib.Seq.{take-all, length-take-le}
 use Rattle.volume.specs.Calls.{Call, repair, Planned, planned, decided, Answered}

@@ -10,7 +10,8 @@ use lib.ListN.{length}
 use borrow.Author.Tests.{eqb-true, eqb-false}
 use Rattle.image.specs.View.{upd-same, upd-other, View, Rec, after, upd}
 use Rattle.volume.specs.Keys.{home}
-use Rattle.volume.specs.Files.{Partition, inside, candidate, spot, wellFormed, fileOf, owned, free, freeHead, sound}
+use Rattle.volume.specs.Files.{inside, candidate, spot, wellFormed, fileOf, owned, free, freeHead, sound}
+use Rattle.volume.specs.declared.Partition.{Partition}
 use Rattle.volume.specs.Index.{spot-home, present-home, own, file-candidate, member-owned}
 use Rattle.volume.specs.Frame.{Clean}
 use Rattle.volume.specs.Plans.{st, asFiller, stores, freeAt, freshFib, newFirst, takenStores, createPlan}

@@ -7,7 +7,8 @@ use Prim.Native.Nat.{ℕ, suc, _-_, _≤_, _<_}
 use native.Mathlib.Omega.{arith}
 use lib.ListN.{take, length}
 use Rattle.image.specs.View.{View, Store, after, upd}
-use Rattle.volume.specs.Files.{Partition, unowned, sound}
+use Rattle.volume.specs.Files.{unowned, sound}
+use Rattle.volume.specs.declared.Partition.{Partition}
 use Rattle.volume.specs.Frame.{Clean, Agree, formed, agree-clean, agree-unowned}
 use Rattle.volume.specs.Plans.{repairStores}
 use Rattle.frame.specs.Repair.{mid-agree}

@@ -14,7 +14,8 @@ use Rattle.drive.specs.Laws.{pda-pos}
 use Rattle.image.specs.View.{upd-same, upd-other, View, Rec, Store, after, upd, pair, put2}
 use Rattle.volume.specs.Words.{nextAt, previousAt}
 use Rattle.volume.specs.Keys.{home}
-use Rattle.volume.specs.Files.{Partition, isLda, inside, candidate, len, end, spot, present, least, size, wellFormed, fileOf, owned, free, freeHead, sound}
+use Rattle.volume.specs.Files.{isLda, inside, candidate, len, end, spot, present, least, size, wellFormed, fileOf, owned, free, freeHead, sound}
+use Rattle.volume.specs.declared.Partition.{Partition}
 use Rattle.volume.specs.Index.{spot-home, present-home, wf-of, own, file-candidate, member, file-back}
 use Rattle.volume.specs.Order.{least-is, least-present}
 use Rattle.volume.specs.Frame.{Clean}
@@ -39,13 +40,13 @@ module _ (π : Partition) (v : View) (ok : sound π v ≡ true) (f : ℕ) (cf : 
   alone = eqb (least π v f) home
 
   abbrev empty : Bool
-  empty = eqb (len π v f) 0
+  empty = eqb (len v f) 0
 
   abbrev top : ℕ
   top = spot π v f (least π v f)
 
   abbrev last : ℕ
-  last = spot π v f (end π v f)
+  last = spot π v f (end v f)
 
   abbrev tl : ℕ
   tl = freeTail π v
@@ -91,7 +92,7 @@ module _ (π : Partition) (v : View) (ok : sound π v ≡ true) (f : ℕ) (cf : 
   lp : present π v f (least π v f) ≡ true
   lp = least-present π v f wf .1
 
-  ep : present π v f (end π v f) ≡ true
+  ep : present π v f (end v f) ≡ true
   ep = wf-of π v f wf .ends
 
   tl-occ : 0 < occ (freeTail π v) (free π v)
@@ -210,7 +211,7 @@ module _ (π : Partition) (v : View) (ok : sound π v ≡ true) (f : ℕ) (cf : 
       Q x r = x ≡ top → two r 6 ≡ pda (π .drive) tl
 
       from-last : empty ≡ false → Q last (gone (π .drive) v a last)
-      from-last h z = absurd (omega (arith, spot-unique π v ok f cf _ _ ep lp z, least-most, eqb-false (len π v f) 0 h))
+      from-last h z = absurd (omega (arith, spot-unique π v ok f cf _ _ ep lp z, least-most, eqb-false (len v f) 0 h))
 
       go : (t : Bool) → alone ≡ t → pair (after (pick t [] (st top (topGone (π .drive) v a tl top) ∷ [])) D) top previousAt ≡ pda (π .drive) tl
       go true h =

@@ -13,7 +13,8 @@ use Rattle.image.specs.View.{upd-same, upd-other, View, Rec, after, upd}
 use Rattle.image.specs.Saves.{words, withData, withText}
 use Rattle.volume.specs.Words.{kindAt}
 use Rattle.volume.specs.Keys.{home}
-use Rattle.volume.specs.Files.{Partition, candidate, len, spot, present, name, wellFormed, isFile, free, freeHead, sound}
+use Rattle.volume.specs.Files.{candidate, len, spot, present, name, wellFormed, isFile, free, freeHead, sound}
+use Rattle.volume.specs.declared.Partition.{Partition}
 use Rattle.volume.specs.Index.{spot-home, present-home}
 use Rattle.volume.specs.Frame.{SameHead, Shape, Clean, kept-len, kept-spot, kept-wellFormed}
 use Rattle.volume.specs.Plans.{Plan, stores, freeAt, freshFib, createPlan, describePlan, destroyPlan, destroyed, repairPlan}
@@ -35,24 +36,24 @@ module _ (π : Partition) (v w : View) where
   -- f is a new file without blocks
   pub record Created (f k : ℕ) : Type 0 where
     pub file : isFile π w f ≡ true
-    pub empty : len π w f ≡ 0
+    pub empty : len w f ≡ 0
     pub kind : w f kindAt ≡ k
     pub text : (x : ℕ) → 8 ≤ x → x < 60 → w f x ≡ 0
 
   -- block r of f has the words given, one block more if r was L + 1; the other blocks, kind and description stay
   pub record Written (f r : ℕ) (dat : Rec) : Type 0 where
     pub file : isFile π w f ≡ true
-    pub long : len π w f ≡ pick (ltb r (len π v f)) (len π v f) (suc r)
+    pub long : len w f ≡ pick (ltb r (len v f)) (len v f) (suc r)
     pub here : (x : ℕ) → 8 ≤ x → w (name π w f r) x ≡ dat (x - 8)
-    pub rest : (i : ℕ) → i < len π v f → i ≢ r → (x : ℕ) → 8 ≤ x → w (name π w f i) x ≡ v (name π v f i) x
+    pub rest : (i : ℕ) → i < len v f → i ≢ r → (x : ℕ) → 8 ≤ x → w (name π w f i) x ≡ v (name π v f i) x
     pub kind : w f kindAt ≡ v f kindAt
     pub text : (x : ℕ) → 8 ≤ x → x < 60 → w f x ≡ v f x
 
   -- f has the description given; blocks and kind stay
   pub record Described (f : ℕ) (dat : Rec) : Type 0 where
     pub file : isFile π w f ≡ true
-    pub long : len π w f ≡ len π v f
-    pub bytes : (i : ℕ) → i < len π v f → (x : ℕ) → 8 ≤ x → w (name π w f i) x ≡ v (name π v f i) x
+    pub long : len w f ≡ len v f
+    pub bytes : (i : ℕ) → i < len v f → (x : ℕ) → 8 ≤ x → w (name π w f i) x ≡ v (name π v f i) x
     pub kind : w f kindAt ≡ v f kindAt
     pub text : (x : ℕ) → 8 ≤ x → x < 60 → w f x ≡ dat (x - 8)
 
@@ -102,7 +103,7 @@ module _ (π : Partition) (low : π.s < π.e) (pos : 0 < π.s) (v : View) (ok : 
     unfolding isFile
     f-file = both-of cf (c f cf)
 
-    pub here-data : (i : ℕ) → i < len π v f → present π v f (292 + i) ≡ true
+    pub here-data : (i : ℕ) → i < len v f → present π v f (292 + i) ≡ true
     here-data i l = data-here π v f f-file i l
 
     -- ---- one block's content
@@ -117,7 +118,7 @@ module _ (π : Partition) (low : π.s < π.e) (pos : 0 < π.s) (v : View) (ok : 
           head : SameHead (v f) (upd v b r f)
           head = subst (λ (x : ℕ). SameHead (v x) (upd v b r x)) (spot-home π v f) (shape .heads home (present-home π v f))
 
-      one-name : (i : ℕ) → i < len π v f → name π (upd v b r) f i ≡ name π v f i
+      one-name : (i : ℕ) → i < len v f → name π (upd v b r) f i ≡ name π v f i
       one-name i l = sym (kept-spot π v (upd v b r) f shape (292 + i) (here-data i l))
 
     pub described : (dat : Rec) → Described π v (after (stores (describePlan π v f dat)) v) f dat
@@ -137,11 +138,11 @@ module _ (π : Partition) (low : π.s < π.e) (pos : 0 < π.s) (v : View) (ok : 
         o : One π v f f (withText dat (v f))
         o = describe-one π v ok f cf dat
 
-    pub replaced : (r : ℕ) (dat : Rec) → r < len π v f → Written π v (after (stores (replacePlan π v f r dat)) v) f r dat
+    pub replaced : (r : ℕ) (dat : Rec) → r < len v f → Written π v (after (stores (replacePlan π v f r dat)) v) f r dat
     unfolding replacePlan over stores after withData
     replaced r dat lr = record {
       file = one-file b X o;
-      long = sym (kept-len π v (upd v b X) f (shape b X o)) ∙ sym (ap (λ (t : Bool). pick t (len π v f) (suc r)) (lt-ltb r (len π v f) lr));
+      long = sym (kept-len π v (upd v b X) f (shape b X o)) ∙ sym (ap (λ (t : Bool). pick t (len v f) (suc r)) (lt-ltb r (len v f) lr));
       here = λ x l. ap (λ (y : ℕ). upd v b X y x) (one-name b X o r lr) ∙ ap (λ (y : Rec). y x) (upd-same v b X) ∙ simp (le-ltb x 8 l);
       rest = λ i l n x m. ap (λ (y : ℕ). upd v b X y x) (one-name b X o i l)
           ∙ ap (λ (y : Rec). y x) (upd-other v b X (name π v f i) (λ z. n (let q = spot-unique π v ok f cf (292 + i) (292 + r) (here-data i l) (here-data r lr) z in omega arith)));

@@ -11,7 +11,8 @@ use Rattle.drive.specs.Address.{pdaBlock}
 use Rattle.drive.specs.Laws.{pda-back}
 use Rattle.image.specs.View.{View, Rec}
 use Rattle.volume.specs.Keys.{home}
-use Rattle.volume.specs.Files.{Partition, inside, candidate, spot, present, wellFormed, fileOf, key, owned, free, freeHead, sound}
+use Rattle.volume.specs.Files.{inside, candidate, spot, present, wellFormed, fileOf, key, owned, free, freeHead, sound}
+use Rattle.volume.specs.declared.Partition.{Partition}
 use Rattle.volume.specs.Index.{spot-home, present-home, member-owned, key-back, owned-not-pib}
 use Rattle.frame.specs.Soft.{Soft, cand-serial}
 use Rattle.frame.specs.Sound.{sound-clean, free-in, free-not, head-free}
@@ -66,7 +67,7 @@ module _ (π : Partition) (v : View) (ok : sound π v ≡ true) where
 
     -- two keys, two blocks
     pub spot-unique : (j k : ℕ) → present π v f j ≡ true → present π v f k ≡ true → spot π v f j ≡ spot π v f k → j ≡ k
-    spot-unique j k p q z = sym (key-back π v f cf wf j p) ∙ ap (key π v) z ∙ key-back π v f cf wf k q
+    spot-unique j k p q z = sym (key-back π v f cf wf j p) ∙ ap (key v) z ∙ key-back π v f cf wf k q
 
     pub spot≢fib : (k : ℕ) → present π v f k ≡ true → k ≢ home → spot π v f k ≢ f
     spot≢fib k p n z = n (spot-unique k home p (present-home π v f) (z ∙ sym (spot-home π v f)))

@@ -15,7 +15,8 @@ use Rattle.volume.specs.Words.{nextAt, previousAt}
 use Rattle.volume.specs.Search.{seek}
 use Rattle.volume.specs.Keys.{home, number, slot, low, span}
 use Rattle.volume.specs.KeyLaws.{slot-fib, number-home, low-home}
-use Rattle.volume.specs.Files.{Partition, isLda, inside, candidate, len, spot, present, least, size, tally, wellFormed, above, below, link}
+use Rattle.volume.specs.Files.{isLda, inside, candidate, len, spot, present, least, size, tally, wellFormed, above, below, link}
+use Rattle.volume.specs.declared.Partition.{Partition}
 use Rattle.volume.specs.Index.{spot-home, present-home, here-of, of-wf}
 use Rattle.volume.specs.Order.{next-one, prev-one, above-is, below-is}
 use Rattle.volume.specs.Plans.{freshFib}
@@ -42,7 +43,7 @@ module _ (π : Partition) (v u : View) (h kind : ℕ) (q : u h ≡ freshFib (π 
   nil : (w : ℕ) → 4 ≤ w → w < 255 → pair u h w ≡ 0
   nil w l m = ap₂ (λ (x y : ℕ). x + 65536 * y) (at w ∙ fresh-nil (π .drive) v h kind w l (omega arith)) (at (w + 1) ∙ fresh-nil (π .drive) v h kind (w + 1) (omega arith) (omega arith))
 
-  pub fresh-len : len π u h ≡ 0
+  pub fresh-len : len u h ≡ 0
   unfolding len freshFib put put2
   fresh-len = ap (λ (x : ℕ). (x + 1) % 65536) (at 258)
 
@@ -65,7 +66,7 @@ module _ (π : Partition) (v u : View) (h kind : ℕ) (q : u h ≡ freshFib (π 
       go true z = absurd (n (fresh-only k z))
       go false z = refl
 
-  end-is : home + len π u h ≡ home
+  end-is : home + len u h ≡ home
   end-is = ap (λ (n : ℕ). home + n) fresh-len
 
   least-is : least π u h ≡ home
@@ -94,7 +95,7 @@ module _ (π : Partition) (v u : View) (h kind : ℕ) (q : u h ≡ freshFib (π 
     mine = λ k n p. absurd (n (fresh-only k p));
     nil = λ k n z l. let s = slot-fib k n z in nil (slot k) (omega (arith, s .0)) (omega (arith, s .1));
     ends = ap (present π u h) end-is ∙ present-home π u h;
-    last = address-is 259 (home + len π u h) (ap₂ (λ (x y : ℕ). x + 65536 * y) (at 259) (at 260) ∙ word (lda (π .drive) h)) end-is;
+    last = address-is 259 (home + len u h) (ap₂ (λ (x y : ℕ). x + 65536 * y) (at 259) (at 260) ∙ word (lda (π .drive) h)) end-is;
     full = λ k l. absurd (omega (arith, fresh-len));
     tallied = tallied;
   })
@@ -103,7 +104,7 @@ module _ (π : Partition) (v u : View) (h kind : ℕ) (q : u h ≡ freshFib (π 
   above-none = next-one (present π u h) home _ 0 (above-is π u h fresh-wf home (omega arith)) (record { hit = λ n. absurd (n refl); none = λ i l _. no-other i (λ z. omega arith) })
 
   below-none : below π u h home ≡ 0
-  below-none = prev-one (present π u h) home _ 0 (below-is π u h fresh-wf home (low-home (len π u h))) (record { hit = λ n. absurd (n refl); none = λ i p l _. no-other i (λ z. omega arith) })
+  below-none = prev-one (present π u h) home _ 0 (below-is π u h fresh-wf home (low-home (len u h))) (record { hit = λ n. absurd (n refl); none = λ i p l _. no-other i (λ z. omega arith) })
 
   link-nil : link π u h 0 ≡ 0
   unfolding link

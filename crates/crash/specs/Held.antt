@@ -11,7 +11,8 @@ use Rattle.drive.specs.Address.{ldaBlock}
 use Rattle.image.specs.View.{View, Rec, Store, after, pair}
 use Rattle.image.specs.Image.{view, Bytes}
 use Rattle.image.specs.Stores.{Fits, Whole, stored, over, bytesFrom, bytesOf, view-stored, stored-length}
-use Rattle.volume.specs.Files.{Partition, partitionOf, isLda}
+use Rattle.volume.specs.Files.{partitionOf, isLda}
+use Rattle.volume.specs.declared.Partition.{Partition}
 use Rattle.frame.specs.Turn.{Each, each-map, after-each}
 use Rattle.base.specs.declared.Refusal.the-variants.{BadImage, BadPartition}
 use Rattle.volume.specs.Words.{partitionEndAt, partitionStartAt}
@@ -85,7 +86,7 @@ module _ {d s e : ℕ} {l : List ℕ} (h : Held d s e l) where
   abbrev v : View
   v = view l
 
-  pub lying : Lies d l s e
+  pub lying : Lies (partitionOf d s e) l
   lying = lies d l s e (h .good)
 
   pub placed : Placed (partitionOf d s e) (view l)

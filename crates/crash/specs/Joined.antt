@@ -10,9 +10,11 @@ use lib.ListN.{length}
 use borrow.Author.Tests.{eq-eqb}
 use Rattle.base.specs.Tests.{headOf, lastOf, occ}
 use Rattle.base.specs.Laws.{both-left, both-right, both-of}
+use Rattle.drive.specs.Address.{orNil}
 use Rattle.image.specs.View.{View, pair}
 use Rattle.volume.specs.Words.{nextAt, previousAt}
-use Rattle.volume.specs.Files.{Partition, orNil, chained, within}
+use Rattle.volume.specs.Files.{chained, within}
+use Rattle.volume.specs.declared.Partition.{Partition}
 use Rattle.frame.specs.Sound.{last-occ, occ-here, occ-more}
 
 pub within-both : (π : Partition) (l m : List ℕ) → within π l ≡ true → within π m ≡ true → within π (l ++ m) ≡ true
@@ -37,33 +39,33 @@ module _ (π : Partition) (v W : View) where
   chained-links x [] h k = refl
   chained-links x (y ∷ l) h k =
       let e = h y (omega (arith, occ-here y l)) in
-      both-of (ap (λ (z : ℕ). eqb z (orNil π x)) (e .1) ∙ both-left _ _ k)
-      (both-of (ap (λ (z : ℕ). eqb z (orNil π (headOf 0 l))) (e .0) ∙ both-left _ _ (both-right _ _ k))
+      both-of (ap (λ (z : ℕ). eqb z (orNil (π .drive) x)) (e .1) ∙ both-left _ _ k)
+      (both-of (ap (λ (z : ℕ). eqb z (orNil (π .drive) (headOf 0 l))) (e .0) ∙ both-left _ _ (both-right _ _ k))
       (chained-links y l (λ b m. h b (omega (arith, m, occ-more b y l))) (both-right _ _ (both-right _ _ k))))
 
   -- a chain whose first block now has x before it
   pub chained-first : (x : ℕ) (l : List ℕ) → ((b : ℕ) → occ b l ≤ 1) → ((b : ℕ) → 0 < occ b l → pair W b nextAt ≡ pair v b nextAt)
-      → ((b : ℕ) → 0 < occ b l → b ≢ headOf 0 l → pair W b previousAt ≡ pair v b previousAt) → pair W (headOf 0 l) previousAt ≡ orNil π x → chained π v 0 l ≡ true → chained π W x l ≡ true
+      → ((b : ℕ) → 0 < occ b l → b ≢ headOf 0 l → pair W b previousAt ≡ pair v b previousAt) → pair W (headOf 0 l) previousAt ≡ orNil (π .drive) x → chained π v 0 l ≡ true → chained π W x l ≡ true
   unfolding chained headOf
   chained-first x [] d n p e k = refl
   chained-first x (y ∷ l) d n p e k =
       both-of (eq-eqb _ _ e)
-      (both-of (ap (λ (z : ℕ). eqb z (orNil π (headOf 0 l))) (n y (omega (arith, occ-here y l))) ∙ both-left _ _ (both-right _ _ k))
+      (both-of (ap (λ (z : ℕ). eqb z (orNil (π .drive) (headOf 0 l))) (n y (omega (arith, occ-here y l))) ∙ both-left _ _ (both-right _ _ k))
       (chained-links y l (λ b m. (n b (omega (arith, m, occ-more b y l)), p b (omega (arith, m, occ-more b y l)) (λ z. omega (arith, m, d y, occ-here y l, ap (λ (q : ℕ). occ q l) z)))) (both-right _ _ (both-right _ _ k))))
 
   -- the chain l, whose last block t now points on to m
   pub chained-join : (x t : ℕ) (l m : List ℕ) → 0 < length l → lastOf x l ≡ t → ((b : ℕ) → occ b l ≤ 1)
       → ((b : ℕ) → 0 < occ b l → pair W b previousAt ≡ pair v b previousAt) → ((b : ℕ) → 0 < occ b l → b ≢ t → pair W b nextAt ≡ pair v b nextAt)
-      → pair W t nextAt ≡ orNil π (headOf 0 m) → chained π W t m ≡ true → chained π v x l ≡ true → chained π W x (l ++ m) ≡ true
+      → pair W t nextAt ≡ orNil (π .drive) (headOf 0 m) → chained π W t m ≡ true → chained π v x l ≡ true → chained π W x (l ++ m) ≡ true
   unfolding chained lastOf headOf
   chained-join x t [] m s q d p n e k h = absurd (omega arith)
   chained-join x t (y ∷ []) m s q d p n e k h =
-      both-of (ap (λ (z : ℕ). eqb z (orNil π x)) (p y (omega (arith, occ-here y []))) ∙ both-left _ _ h)
+      both-of (ap (λ (z : ℕ). eqb z (orNil (π .drive) x)) (p y (omega (arith, occ-here y []))) ∙ both-left _ _ h)
       (both-of (eq-eqb _ _ (ap (λ (z : ℕ). pair W z nextAt) q ∙ e)) (subst (λ (z : ℕ). chained π W z m ≡ true) (sym q) k))
   chained-join x t (y ∷ z ∷ l) m s q d p n e k h =
       let o : 0 < occ y (y ∷ z ∷ l) = omega (arith, occ-here y (z ∷ l)) in
       let ne : y ≢ t = λ w. omega (arith, d t, last-occ y (z ∷ l) (omega arith), ap (λ (u : ℕ). occ u (z ∷ l)) q, occ-here t (z ∷ l), ap (λ (u : ℕ). occ t (u ∷ z ∷ l)) w) in
-      both-of (ap (λ (a : ℕ). eqb a (orNil π x)) (p y o) ∙ both-left _ _ h)
-      (both-of (ap (λ (a : ℕ). eqb a (orNil π z)) (n y o ne) ∙ both-left _ _ (both-right _ _ h))
+      both-of (ap (λ (a : ℕ). eqb a (orNil (π .drive) x)) (p y o) ∙ both-left _ _ h)
+      (both-of (ap (λ (a : ℕ). eqb a (orNil (π .drive) z)) (n y o ne) ∙ both-left _ _ (both-right _ _ h))
       (chained-join y t (z ∷ l) m (omega arith) q (λ b. omega (arith, d b, occ-more b y (z ∷ l))) (λ b i. p b (omega (arith, i, occ-more b y (z ∷ l)))) (λ b i. n b (omega (arith, i, occ-more b y (z ∷ l)))) e k
       (both-right _ _ (both-right _ _ h))))

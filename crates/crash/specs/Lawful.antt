@@ -15,7 +15,8 @@ use Rattle.image.specs.View.{View, Rec, pair, put2}
 use Rattle.image.specs.Stores.{Fits}
 use Rattle.volume.specs.Keys.{home, low, span}
 use Rattle.volume.specs.KeyLaws.{span-end}
-use Rattle.volume.specs.Files.{Partition, inside, candidate, len, end, spot, present, least, size, wellFormed, free, freeHead, chain, sound}
+use Rattle.volume.specs.Files.{inside, candidate, len, end, spot, present, least, size, wellFormed, free, freeHead, chain, sound}
+use Rattle.volume.specs.declared.Partition.{Partition}
 use Rattle.volume.specs.Index.{member, wf-of}
 use Rattle.volume.specs.Order.{least-present}
 use Rattle.volume.specs.Plans.{st, stores, freeAt, freshFib, newFirst, pibLess, takenStores, createPlan, describePlan, destroyPlan, destroyed, gone, topGone, fibGone, topGoneStores, lastGoneStores, pibMore, freeTail, asFiller}
@@ -158,7 +159,7 @@ module _ {π : Partition} {v : View} (at : Placed π v) where
 
       size-few : size π v f < 69552
       unfolding size span low
-      size-few = omega (arith, count-most (span (len π v f)) (λ i. present π v f (low (len π v f) + i)), span-end (len π v f), wf-of π v f wf .short)
+      size-few = omega (arith, count-most (span (len v f)) (λ i. present π v f (low (len v f) + i)), span-end (len v f), wf-of π v f wf .short)
 
       pub destroy-lawful : Each (Lawful π v) (stores (destroyPlan π v f))
       unfolding stores destroyPlan destroyed topGoneStores lastGoneStores fibGone pibMore
@@ -181,7 +182,7 @@ module _ {π : Partition} {v : View} (at : Placed π v) where
           alone = eqb (least π v f) home
 
           empty : Bool
-          empty = eqb (len π v f) 0
+          empty = eqb (len v f) 0
 
           h : ℕ
           h = freeHead π v
@@ -193,12 +194,12 @@ module _ {π : Partition} {v : View} (at : Placed π v) where
           top = spot π v f (least π v f)
 
           last : ℕ
-          last = spot π v f (end π v f)
+          last = spot π v f (end v f)
 
           top-in : inside π (spot π v f (least π v f)) ≡ true
           top-in = spot-in _ (least-present π v f wf .1)
 
-          last-in′ : inside π (spot π v f (end π v f)) ≡ true
+          last-in′ : inside π (spot π v f (end v f)) ≡ true
           last-in′ = spot-in _ (wf-of π v f wf .ends)
 
           fib : (t : Bool) → Fits (pick t (topGone (π .drive) v h tl f) (put2 serialAt 0 (v f)))

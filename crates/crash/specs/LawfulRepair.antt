@@ -11,11 +11,12 @@ use borrow.Author.Tests.{eqb-false}
 use Rattle.base.specs.Tests.{pick, tabFrom, headOf, lastOf}
 use Rattle.base.specs.Tests as tests
 use Rattle.base.specs.Laws.{both-left, both-right}
-use Rattle.drive.specs.Address.{pda, lda}
+use Rattle.drive.specs.Address.{pda, lda, orNil}
 use Rattle.image.specs.View.{View, pair}
 use Rattle.image.specs.Stores.{Fits}
 use Rattle.volume.specs.Keys.{home}
-use Rattle.volume.specs.Files.{Partition, unowned, address, isLda, len, spot, present, wellFormed, fileOf, key, owned, above, below, link, orNil, within}
+use Rattle.volume.specs.Files.{unowned, address, isLda, len, spot, present, wellFormed, fileOf, key, owned, above, below, link, within}
+use Rattle.volume.specs.declared.Partition.{Partition}
 use Rattle.volume.specs.Index.{Own, own, file-candidate, file-formed, member, present-low, present-high}
 use Rattle.volume.specs.Order.{above-is, below-is}
 use Rattle.volume.specs.Plans.{st, stores, repairStores, repairPlan, repaired, repairedPib, trimmed, shaped, content, relinked, freed, asFiller}
@@ -69,7 +70,7 @@ module _ {π : Partition} {v : View} (at : Placed π v) where
   unfolding unowned
   fr-few = omega (arith, length-those (λ b. not (owned π v b)) (suc π.s) (π.e - π.s), count-most (π.e - π.s) (λ j. not (owned π v (suc π.s + j))), at .few)
 
-  orNil-fits : (b : ℕ) → b ≤ π.e → orNil π b < 4294967296
+  orNil-fits : (b : ℕ) → b ≤ π.e → orNil (π .drive) b < 4294967296
   orNil-fits b l = go (eqb b 0)
     where
       go : (t : Bool) → pick t 0 (pda π.drive b) < 4294967296
@@ -84,10 +85,10 @@ module _ {π : Partition} {v : View} (at : Placed π v) where
 
   content-fits : (b : ℕ) → Fits (content π v b)
   unfolding content shaped
-  content-fits b = go (ltb (key π v b) home)
+  content-fits b = go (ltb (key v b) home)
     where
-      go : (t : Bool) → Fits (pick t (trimmed (len π v (fileOf π v b)) (key π v b) (v b)) (v b))
-      go true = trimmed-fits (len π v (fileOf π v b)) (key π v b) (at .fits b)
+      go : (t : Bool) → Fits (pick t (trimmed (len v (fileOf π v b)) (key v b) (v b)) (v b))
+      go true = trimmed-fits (len v (fileOf π v b)) (key v b) (at .fits b)
       go false = at .fits b
 
   relinked-fits : (b : ℕ) → owned π v b ≡ true → Fits (relinked π v b)
@@ -100,12 +101,12 @@ module _ {π : Partition} {v : View} (at : Placed π v) where
       f = fileOf π v b
 
       k : ℕ
-      k = key π v b
+      k = key v b
 
-      w : Own π v b (fileOf π v b) (key π v b)
+      w : Own π v b (fileOf π v b) (key v b)
       w = own π v b o
 
-      here : present π v (fileOf π v b) (key π v b) ≡ true
+      here : present π v (fileOf π v b) (key v b) ≡ true
       here = w .here
 
       wf : wellFormed π v (fileOf π v b) ≡ true

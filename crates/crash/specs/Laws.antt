@@ -15,7 +15,8 @@ use Rattle.base.specs.Laws.{every-at, both-left, both-right, both-of}
 use Rattle.image.specs.View.{View, Store, after, pair}
 use Rattle.image.specs.Image.{view, view-settles}
 use Rattle.image.specs.Stores.{stored}
-use Rattle.volume.specs.Files.{Partition, partitionOf, unowned, blockAt, inside, candidate, len, wellFormed, isFile, isMalformed, sound}
+use Rattle.volume.specs.Files.{partitionOf, unowned, blockAt, inside, candidate, len, wellFormed, isFile, isMalformed, sound}
+use Rattle.volume.specs.declared.Partition.{Partition}
 use Rattle.volume.specs.Frame.{Clean}
 use Rattle.volume.specs.Plans.{Plan, repairStores, repairPlan}
 use Rattle.volume.specs.Writes.{needs}
@@ -89,7 +90,7 @@ comes : (d s : ℕ) (l : List ℕ) (c : Call) → Comes (planned d l s c)
 unfolding planned createIn appendIn writeIn describeIn destroyIn repairIn
 comes d s l (create kind) = through-comes d l s true _ (λ π. either (leb (room π (view l)) 1) (refuses Full) (does _ _))
 comes d s l (write f r block) = through-comes d l s (eqb (length block) 512) _ (λ π. either (candidate π (view l) f)
-    (either (ltb r reach) (either (ltb r (len π (view l) f)) (does _ _) (either (eqb r (len π (view l) f)) (either (leb (room π (view l)) (needs π (view l) f r)) (refuses Full) (does _ _)) (refuses BadBlock))) (refuses BadBlock))
+    (either (ltb r reach) (either (ltb r (len (view l) f)) (does _ _) (either (eqb r (len (view l) f)) (either (leb (room π (view l)) (needs π (view l) f r)) (refuses Full) (does _ _)) (refuses BadBlock))) (refuses BadBlock))
     (refuses NoCandidate))
 comes d s l (describe f text) = through-comes d l s (eqb (length text) 104) _ (λ π. either (candidate π (view l) f) (does _ _) (refuses NoCandidate))
 comes d s l (destroy f) = through-comes d l s true _ (λ π. either (candidate π (view l) f) (does _ _) (refuses NoCandidate))

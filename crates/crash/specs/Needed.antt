@@ -5,7 +5,8 @@ use Prim.Native.Nat.{ℕ, suc, _+_, _-_, _<_}
 use native.Mathlib.Omega.{arith}
 use Rattle.base.specs.Tests.{pick, count}
 use Rattle.image.specs.View.{View, pair}
-use Rattle.volume.specs.Files.{Partition, blockAt, owned, free, sound}
+use Rattle.volume.specs.Files.{blockAt, owned, free, sound}
+use Rattle.volume.specs.declared.Partition.{Partition}
 use Rattle.frame.specs.Sound.{sound-once, sound-within, sound-number}
 use Rattle.base.specs.Sums.{sum-same, count-sum, count-both}
 use Rattle.frame.specs.Needed.{needed, owned-needed}

@@ -14,7 +14,8 @@ use Rattle.image.specs.Saves.{withData, withText}
 use Rattle.volume.specs.Words.{nextAt, previousAt, slotAt}
 use Rattle.volume.specs.Keys.{home, up, slot, child, first}
 use Rattle.volume.specs.KeyLaws.{up-most, slot-fib, number-fib}
-use Rattle.volume.specs.Files.{Partition, isLda, inside, candidate, spot, present, wellFormed, key, owned, above, below, link, free, freeHead, sound}
+use Rattle.volume.specs.Files.{isLda, inside, candidate, spot, present, wellFormed, key, owned, above, below, link, free, freeHead, sound}
+use Rattle.volume.specs.declared.Partition.{Partition}
 use Rattle.volume.specs.Index.{spot-home, present-home, member, member-owned, file-back, key-back, present-few, present-low, present-high}
 use Rattle.volume.specs.Order.{above-is, below-is}
 use Rattle.volume.specs.Frame.{SameHead, head-of, Shape, Clean, Formed, kept-len, kept-present, kept-spot, kept-link, kept-above, kept-below, kept-wellFormed, agree-clean, agree-owned}
@@ -53,7 +54,7 @@ pub record One (π : Partition) (v : View) (f b : ℕ) (r : Rec) : Type 0 where
   pub head : SameHead (v b) r
   pub links : (w : ℕ) → 4 ≤ w → w < 8 → v b w ≡ r w
   pub fib : (w : ℕ) → 60 ≤ w → v f w ≡ upd v b r f w
-  pub off : home ≤ key π v b
+  pub off : home ≤ key v b
   pub mine : Mine π v f b r
 
 module _ (π : Partition) (v : View) (ok : sound π v ≡ true) (f : ℕ) (cf : candidate π v f ≡ true) where
@@ -76,7 +77,7 @@ module _ (π : Partition) (v : View) (ok : sound π v ≡ true) (f : ℕ) (cf : 
 
     -- no pointer block is b
     pointer : (h k : ℕ) → candidate π v h ≡ true → k < home → present π v h k ≡ true → upd v b r (spot π v h k) ≡ v (spot π v h k)
-    pointer h k ch l p = upd-other v b r _ (λ z. omega (arith, o .off, ap (key π v) (sym z) ∙ key-back π v h ch (c h ch) k p))
+    pointer h k ch l p = upd-other v b r _ (λ z. omega (arith, o .off, ap (key v) (sym z) ∙ key-back π v h ch (c h ch) k p))
 
     fib2 : (w : ℕ) → 60 ≤ w → pair v f w ≡ pair (upd v b r) f w
     fib2 w l = ap₂ (λ (x y : ℕ). x + 65536 * y) (o .fib w l) (o .fib (w + 1) (omega arith))
@@ -168,8 +169,8 @@ module _ (π : Partition) (v : View) (ok : sound π v ≡ true) (f : ℕ) (cf : 
 
   -- ---- the two calls
 
-  fib-key : key π v f ≡ home
-  fib-key = subst (λ (x : ℕ). key π v x ≡ home) (spot-home π v f) (key-back π v f cf wf home (present-home π v f))
+  fib-key : key v f ≡ home
+  fib-key = subst (λ (x : ℕ). key v x ≡ home) (spot-home π v f) (key-back π v f cf wf home (present-home π v f))
 
   pub describe-one : (dat : Rec) → One π v f f (withText dat (v f))
   unfolding both withText

@@ -9,7 +9,8 @@ use borrow.Author.Tests.{ltb-true}
 use Rattle.base.specs.Tests.{tabFrom}
 use Rattle.base.specs.Laws.{every-at, both-left}
 use Rattle.image.specs.View.{View, Rec, Store, after, upd}
-use Rattle.volume.specs.Files.{Partition, unowned, inside, candidate, len, present, free, freeHead, sound, isFile}
+use Rattle.volume.specs.Files.{unowned, inside, candidate, len, present, free, freeHead, sound, isFile}
+use Rattle.volume.specs.declared.Partition.{Partition}
 use Rattle.volume.specs.Frame.{Clean, Agree, formed, agree-unowned}
 use Rattle.volume.specs.Plans.{st, Plan, stores, createPlan, describePlan, destroyPlan, repairPlan, repaired, repairedPib}
 use Rattle.volume.specs.Writes.{replacePlan}
@@ -52,7 +53,7 @@ module _ (π : Partition) (v : View) (at : Placed π v) (ok : sound π v ≡ tru
       lawful = describe-lawful at ok f c dat k;
     }
 
-    pub replace-owes : (r : ℕ) (dat : Rec) → Words 256 dat → r < len π v f → Owes π v (replacePlan π v f r dat) f (λ w. Written π v w f r dat)
+    pub replace-owes : (r : ℕ) (dat : Rec) → Words 256 dat → r < len v f → Owes π v (replacePlan π v f r dat) f (λ w. Written π v w f r dat)
     replace-owes r dat k l =
         let p : present π v f (292 + r) ≡ true = here-data π (at .low) (at .pos) v ok f c r l in
         record {

@@ -9,10 +9,11 @@ use lib.Dec.{ltb, eqb}
 use borrow.Author.Tests.{ltb-true, ltb-false, eqb-true, eqb-false, ne-eqb}
 use Rattle.base.specs.Tests.{pick, both, headOf, occ}
 use Rattle.base.specs.Laws.{both-left}
-use Rattle.drive.specs.Address.{pda}
+use Rattle.drive.specs.Address.{pda, orNil}
 use Rattle.image.specs.View.{View, Rec, pair, put2}
 use Rattle.volume.specs.Words.{nextAt, previousAt}
-use Rattle.volume.specs.Files.{Partition, inside, candidate, spot, present, least, wellFormed, fileOf, key, owned, orNil, free, chained, sound}
+use Rattle.volume.specs.Files.{inside, candidate, spot, present, least, wellFormed, fileOf, key, owned, free, chained, sound}
+use Rattle.volume.specs.declared.Partition.{Partition}
 use Rattle.volume.specs.Index.{own, member, member-owned, file-back}
 use Rattle.volume.specs.Order.{least-present}
 use Rattle.volume.specs.Plans.{freeTail}
@@ -36,8 +37,8 @@ module _ (π : Partition) (v : View) (ok : sound π v ≡ true) (f : ℕ) (cf : 
   tl-occ = tail-free π v ok
 
   -- a block that f owns has a key that is present
-  mine : (b : ℕ) → owned π v b ≡ true → fileOf π v b ≡ f → (present π v f (key π v b) ≡ true) × (spot π v f (key π v b) ≡ b)
-  mine b o z = let w = own π v b o in (subst (λ (x : ℕ). present π v x (key π v b) ≡ true) z (w .here), ap (λ (x : ℕ). spot π v x (key π v b)) (sym z) ∙ w .back)
+  mine : (b : ℕ) → owned π v b ≡ true → fileOf π v b ≡ f → (present π v f (key v b) ≡ true) × (spot π v f (key v b) ≡ b)
+  mine b o z = let w = own π v b o in (subst (λ (x : ℕ). present π v x (key v b) ≡ true) z (w .here), ap (λ (x : ℕ). spot π v x (key v b)) (sym z) ∙ w .back)
 
   -- a block of the file's list is one of its own, and is there once
   pub occ-blocks : (b : ℕ) → occ b (blocks π v f) ≡ pick (both (owned π v b) (eqb (fileOf π v b) f)) 1 0
@@ -45,7 +46,7 @@ module _ (π : Partition) (v : View) (ok : sound π v ≡ true) (f : ℕ) (cf : 
   occ-blocks b = go (owned π v b) refl (eqb (fileOf π v b) f) refl
     where
       go : (t : Bool) → owned π v b ≡ t → (u : Bool) → eqb (fileOf π v b) f ≡ u → occ b (blocks π v f) ≡ pick (both t u) 1 0
-      go true q true z = ap (λ (x : ℕ). occ x (blocks π v f)) (sym (mine b q (eqb-true _ _ z) .1)) ∙ occ-mine π v f cf wf (key π v b) (mine b q (eqb-true _ _ z) .0)
+      go true q true z = ap (λ (x : ℕ). occ x (blocks π v f)) (sym (mine b q (eqb-true _ _ z) .1)) ∙ occ-mine π v f cf wf (key v b) (mine b q (eqb-true _ _ z) .0)
       go true q false z = occ-other π v f cf wf b (λ j p y. eqb-false _ _ z (ap (fileOf π v) (sym y) ∙ file-back π v f cf wf j p))
       go false q u z = occ-other π v f cf wf b (λ j p y. true≢false (sym (member-owned π v f cf wf j p) ∙ ap (owned π v) y ∙ q))
 
@@ -56,7 +57,7 @@ module _ (π : Partition) (v : View) (ok : sound π v ≡ true) (f : ℕ) (cf : 
       go true q = omega arith
       go false q = omega arith
 
-  orNil-in : (b : ℕ) → inside π b ≡ true → orNil π b ≡ pda (π .drive) b
+  orNil-in : (b : ℕ) → inside π b ≡ true → orNil (π .drive) b ≡ pda (π .drive) b
   unfolding inside
   orNil-in b i = ap (λ (t : Bool). pick t 0 (pda (π .drive) b)) (ne-eqb b 0 (λ z. omega (arith, ltb-true (π .s) b (both-left _ _ i))))
 
@@ -93,7 +94,7 @@ module _ (π : Partition) (v : View) (ok : sound π v ≡ true) (f : ℕ) (cf : 
     block-links b m = go (owned π v b) refl (eqb (fileOf π v b) f) refl (occ-blocks b)
       where
         go : (t : Bool) → owned π v b ≡ t → (u : Bool) → eqb (fileOf π v b) f ≡ u → occ b (blocks π v f) ≡ pick (both t u) 1 0 → Linked b
-        go true q true z o = let k = mine b q (eqb-true _ _ z) in subst Linked (k .1) (file-links (key π v b) (k .0))
+        go true q true z o = let k = mine b q (eqb-true _ _ z) in subst Linked (k .1) (file-links (key v b) (k .0))
         go true q false z o = absurd (omega arith)
         go false q u z o = absurd (omega arith)
 
@@ -108,7 +109,7 @@ module _ (π : Partition) (v : View) (ok : sound π v ≡ true) (f : ℕ) (cf : 
 
     pub ways : chained π W 0 (free π v ++ blocks π v f) ≡ true
     ways = chained-join π v W 0 tl (free π v) (blocks π v f) (sound-some π v ok) (sym (tail-is π v ok)) few free-prev (λ b m n. ap (λ (r : Rec). two r 4) (h .free b m n))
-        (ap (λ (r : Rec). two r 4) (h .tail) ∙ put2-here 4 _ (v tl) ∙ sym (orNil-in top (member π v f cf wf _ (least-present π v f wf .1) .ins)) ∙ ap (orNil π) (sym head-is))
+        (ap (λ (r : Rec). two r 4) (h .tail) ∙ put2-here 4 _ (v tl) ∙ sym (orNil-in top (member π v f cf wf _ (least-present π v f wf .1) .ins)) ∙ ap (orNil (π .drive)) (sym head-is))
         (chained-first π v W tl (blocks π v f) few-blocks (λ b m. block-links b m .0) (λ b m n. block-links b m .1 (λ z. n (z ∙ sym head-is)))
         (ap (λ (b : ℕ). pair W b previousAt) head-is ∙ h .first ∙ sym (orNil-in tl (free-in π v ok tl tl-occ)))
         (chained-blocks π v f cf wf (links-of π v f (sound-linked π v ok f cf))))

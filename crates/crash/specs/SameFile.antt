@@ -10,7 +10,8 @@ use Rattle.image.specs.View.{View}
 use Rattle.volume.specs.Words.{kindAt}
 use Rattle.volume.specs.Keys.{home}
 use Rattle.volume.specs.KeyLaws.{first-data}
-use Rattle.volume.specs.Files.{Partition, len, name, present, spot, isFile}
+use Rattle.volume.specs.Files.{len, name, present, spot, isFile}
+use Rattle.volume.specs.declared.Partition.{Partition}
 use Rattle.volume.specs.Index.{wf-of, file-formed}
 use Rattle.volume.specs.Frame.{Kept, kept-len, kept-present, kept-spot, Clean, Agree, formed, agree-file}
 use Rattle.frame.specs.Turn.{Turn}
@@ -18,7 +19,7 @@ use Rattle.frame.specs.Turn.{Turn}
 -- f is a file in both views or in neither; as a file it has the same keys in the same blocks, and the same bytes, kind and description
 pub record SameFile (π : Partition) (v v′ : View) (f : ℕ) : Type 0 where
   pub is : isFile π v f ≡ isFile π v′ f
-  pub long : isFile π v f ≡ true → len π v f ≡ len π v′ f
+  pub long : isFile π v f ≡ true → len v f ≡ len v′ f
   pub keys : isFile π v f ≡ true → (k : ℕ) → present π v f k ≡ present π v′ f k
   pub blocks : isFile π v f ≡ true → (k : ℕ) → present π v f k ≡ true → spot π v f k ≡ spot π v′ f k
   pub bytes : isFile π v f ≡ true → (k : ℕ) → home < k → present π v f k ≡ true → (w : ℕ) → 8 ≤ w → v (spot π v f k) w ≡ v′ (spot π v′ f k) w
@@ -54,7 +55,7 @@ pub file-refl : (π : Partition) (v : View) (f : ℕ) → SameFile π v v f
 file-refl π v f = record { is = refl; long = λ _. refl; keys = λ _ _. refl; blocks = λ _ _ _. refl; bytes = λ _ _ _ _ _ _. refl; kind = λ _. refl; text = λ _ _ _ _. refl }
 
 -- block r of a file is present
-pub data-here : (π : Partition) (v : View) (f : ℕ) → isFile π v f ≡ true → (r : ℕ) → r < len π v f → present π v f (292 + r) ≡ true
+pub data-here : (π : Partition) (v : View) (f : ℕ) → isFile π v f ≡ true → (r : ℕ) → r < len v f → present π v f (292 + r) ≡ true
 data-here π v f i r l = wf-of π v f (file-formed π v f i) .full (292 + r) (omega (arith, first-data (292 + r) (omega arith)))
 
 module _ (π : Partition) (v v′ : View) where
@@ -81,6 +82,6 @@ module _ (π : Partition) (v v′ : View) where
       (λ i. t .others g n (both-left _ _ i))
 
   -- by its blocks' numbers: the bytes of block r
-  module _ (f : ℕ) (q : SameFile π v v′ f) (i : isFile π v f ≡ true) (r : ℕ) (l : r < len π v f) where
+  module _ (f : ℕ) (q : SameFile π v v′ f) (i : isFile π v f ≡ true) (r : ℕ) (l : r < len v f) where
     pub same-bytes : (w : ℕ) → 8 ≤ w → v (name π v f r) w ≡ v′ (name π v′ f r) w
     same-bytes = q .bytes i (292 + r) (omega arith) (data-here π v f i r l)

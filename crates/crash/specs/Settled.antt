@@ -10,7 +10,8 @@ use Rattle.base.specs.declared.Refusal.{Refusal}
 use Rattle.base.specs.declared.Refusal.the-variants.{BadBlock, Full, NoCandidate, NothingFree}
 use Rattle.image.specs.View.{View, Rec}
 use Rattle.volume.specs.Keys.{reach}
-use Rattle.volume.specs.Files.{Partition, unowned, candidate, len, freeHead, sound, isFile}
+use Rattle.volume.specs.Files.{unowned, candidate, len, freeHead, sound, isFile}
+use Rattle.volume.specs.declared.Partition.{Partition}
 use Rattle.volume.specs.Plans.{Plan, createPlan, describePlan, destroyPlan, repairPlan}
 use Rattle.volume.specs.Writes.{needs, writePlan, replacePlan}
 use Rattle.volume.specs.Calls.{Planned, refuse, finish, createIn, appendIn, writeIn, describeIn, destroyIn, repairIn, room}
@@ -54,7 +55,7 @@ module _ (π : Partition) (v : View) (at : Placed π v) (ok : sound π v ≡ tru
   repair-settled = either (eqb (length (unowned π v)) 0) _ _ (λ _. refused NothingFree) (λ _. done 0 (repairPlan π v) (repair-owes π v at ok))
 
   -- the block after the last
-  append-settled : (f r : ℕ) (dat : Rec) → Words 256 dat → candidate π v f ≡ true → r ≡ len π v f → r < reach → Settled π v f (λ w. Written π v w f r dat) (appendIn π v f r dat)
+  append-settled : (f r : ℕ) (dat : Rec) → Words 256 dat → candidate π v f ≡ true → r ≡ len v f → r < reach → Settled π v f (λ w. Written π v w f r dat) (appendIn π v f r dat)
   unfolding appendIn
   append-settled f r dat k c n l = either (leb (room π v) (needs π v f r)) _ _ (λ _. refused Full)
       (λ h. done 0 (writePlan π v f r dat) (write-owes (record { ok = ok; cf = c; next = n; far = l; enough = leb-no _ _ h }) dat at k))
@@ -63,8 +64,8 @@ module _ (π : Partition) (v : View) (at : Placed π v) (ok : sound π v ≡ tru
   unfolding writeIn
   write-settled f r dat k = either (candidate π v f) _ _
       (λ c. either (ltb r reach) _ _
-      (λ m. either (ltb r (len π v f)) _ _
-      (λ l. done 0 (replacePlan π v f r dat) (replace-owes π v at ok f c r dat k (ltb-true r (len π v f) l)))
-      (λ _. either (eqb r (len π v f)) _ _ (λ e. append-settled f r dat k c (eqb-true r (len π v f) e) (ltb-true r reach m)) (λ _. refused BadBlock)))
+      (λ m. either (ltb r (len v f)) _ _
+      (λ l. done 0 (replacePlan π v f r dat) (replace-owes π v at ok f c r dat k (ltb-true r (len v f) l)))
+      (λ _. either (eqb r (len v f)) _ _ (λ e. append-settled f r dat k c (eqb-true r (len v f) e) (ltb-true r reach m)) (λ _. refused BadBlock)))
       (λ _. refused BadBlock))
       (λ _. refused NoCandidate)

@@ -16,7 +16,8 @@ use Rattle.base.specs.Tests.{pick}
 use Rattle.image.specs.Image.{view, Bytes}
 use Rattle.image.specs.Stores.{stored}
 use Rattle.volume.specs.Words.{dataAt, kindAt}
-use Rattle.volume.specs.Files.{Partition, partitionOf, isFile, len, present, spot, name, freeHead}
+use Rattle.volume.specs.Files.{partitionOf, isFile, len, present, spot, name, freeHead}
+use Rattle.volume.specs.declared.Partition.{Partition}
 use Rattle.volume.specs.Answers.{endOf, checked}
 use Rattle.volume.specs.Calls.{Call, create, write, describe, destroy, repair, planned, decided}
 use Rattle.volume.specs.declared.Found.{Found}
@@ -76,10 +77,10 @@ module _ (d s : ℕ) where
 
   -- file f has the same blocks in link order, key by key, the same bytes, kind and description in two images
   pub record SameContent (l l′ : List ℕ) (f : ℕ) : Type 0 where
-    pub long : len (here l) (view l) f ≡ len (here l′) (view l′) f
+    pub long : len (view l) f ≡ len (view l′) f
     pub keys : (k : ℕ) → present (here l) (view l) f k ≡ present (here l′) (view l′) f k
     pub blocks : (k : ℕ) → present (here l) (view l) f k ≡ true → spot (here l) (view l) f k ≡ spot (here l′) (view l′) f k
-    pub bytes : (r : ℕ) → r < len (here l) (view l) f → (k : ℕ) → k < 256
+    pub bytes : (r : ℕ) → r < len (view l) f → (k : ℕ) → k < 256
         → view l (name (here l) (view l) f r) (dataAt k) ≡ view l′ (name (here l′) (view l′) f r) (dataAt k)
     pub kind : view l f kindAt ≡ view l′ f kindAt
     pub description : (k : ℕ) → k < 52 → view l f (dataAt k) ≡ view l′ f (dataAt k)

@@ -9,7 +9,8 @@ use lib.ListN.{take, length}
 use borrow.Author.Tests.{ltb-true, ltb-false}
 use Rattle.base.specs.Tests.{pick}
 use Rattle.image.specs.View.{View, after}
-use Rattle.volume.specs.Files.{Partition, unowned, sound}
+use Rattle.volume.specs.Files.{unowned, sound}
+use Rattle.volume.specs.declared.Partition.{Partition}
 use Rattle.volume.specs.Frame.{Clean}
 use Rattle.volume.specs.Plans.{stores}
 use Rattle.frame.specs.Sound.{sound-clean, spare-block}

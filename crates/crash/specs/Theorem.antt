@@ -12,7 +12,8 @@ use Rattle.base.specs.Tests.{pick, both}
 use Rattle.base.specs.Laws.{both-left}
 use Rattle.image.specs.View.{View, Store, after}
 use Rattle.image.specs.Image.{view}
-use Rattle.volume.specs.Files.{Partition, partitionOf, unowned, inside, candidate, len, present, spot, name, wellFormed, isFile, sound}
+use Rattle.volume.specs.Files.{partitionOf, unowned, inside, candidate, len, present, spot, name, wellFormed, isFile, sound}
+use Rattle.volume.specs.declared.Partition.{Partition}
 use Rattle.volume.specs.Frame.{Clean}
 use Rattle.volume.specs.Plans.{repairStores}
 use Rattle.frame.specs.Soft.{cand-in}
@@ -48,13 +49,13 @@ module _ {d s e : ℕ} {l l′ : List ℕ} (h : Held d s e l) (h′ : Held d s e
     module _ (i : isFile (partitionOf d s e) (view l) f ≡ true) where
       same-content : SameContent d s l l′ f
       same-content = record {
-        long = ap (λ (ρ : Partition). len ρ (view l) f) here-is ∙ q .long i ∙ sym (ap (λ (ρ : Partition). len ρ (view l′) f) here-is′);
+        long = ap (λ (ρ : Partition). len (view l) f) here-is ∙ q .long i ∙ sym (ap (λ (ρ : Partition). len (view l′) f) here-is′);
         keys = λ k. ap (λ (ρ : Partition). present ρ (view l) f k) here-is ∙ q .keys i k ∙ sym (ap (λ (ρ : Partition). present ρ (view l′) f k) here-is′);
         blocks = λ k p. ap (λ (ρ : Partition). spot ρ (view l) f k) here-is
             ∙ q .blocks i k (subst (λ (ρ : Partition). present ρ (view l) f k ≡ true) here-is p)
             ∙ sym (ap (λ (ρ : Partition). spot ρ (view l′) f k) here-is′);
         bytes = λ r m k _. ap (λ (ρ : Partition). view l (name ρ (view l) f r) (8 + k)) here-is
-            ∙ same-bytes π (view l) (view l′) f q i r (subst (λ (ρ : Partition). r < len ρ (view l) f) here-is m) (8 + k) (omega arith)
+            ∙ same-bytes π (view l) (view l′) f q i r (subst (λ (ρ : Partition). r < len (view l) f) here-is m) (8 + k) (omega arith)
             ∙ sym (ap (λ (ρ : Partition). view l′ (name ρ (view l′) f r) (8 + k)) here-is′);
         kind = q .kind i;
         description = λ k m. q .text i (8 + k) (omega arith) (omega arith);

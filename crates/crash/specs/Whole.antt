@@ -5,7 +5,8 @@ use mathlib.Core.List.{List, _∷_, _++_}
 use mathlib.Core.Bool.{true, false, true≢false}
 use Prim.Native.Nat.{ℕ, _<_}
 use Rattle.image.specs.View.{View, Store, after, upd}
-use Rattle.volume.specs.Files.{Partition, candidate, fileOf, key, owned, sound}
+use Rattle.volume.specs.Files.{candidate, fileOf, key, owned, sound}
+use Rattle.volume.specs.declared.Partition.{Partition}
 use Rattle.volume.specs.Index.{own, file-candidate, member-owned, file-back}
 use Rattle.volume.specs.Frame.{Clean, Agree, formed, kept-present, kept-spot, kept-wellFormed, agree-clean, agree-owned}
 use Rattle.frame.specs.Turn.{Each, each-map, after-miss, after-append, Turn, turn-clean}
@@ -24,7 +25,7 @@ module _ (π : Partition) (v D : View) (c : Clean π v) (f : ℕ) (t : Turn π v
       let c₀ = file-candidate π v g (o .file) in
       let s = t .others g n c₀ .shape in
       subst (λ (x : ℕ). owned π D x ≡ true) (sym (kept-spot π v D g s _ (o .here)) ∙ o .back)
-      (member-owned π D g (sym (t .cands g n) ∙ c₀) (sym (kept-wellFormed π v D g s) ∙ c g c₀) (key π v b) (sym (kept-present π v D g s _) ∙ o .here))
+      (member-owned π D g (sym (t .cands g n) ∙ c₀) (sym (kept-wellFormed π v D g s) ∙ c g c₀) (key v b) (sym (kept-present π v D g s _) ∙ o .here))
 
   -- the other files' blocks untouched: they are linked as before
   pub links-others : ((b : ℕ) → owned π v b ≡ true → fileOf π v b ≢ f → D b ≡ v b) → sound π v ≡ true → (g : ℕ) → g ≢ f → candidate π D g ≡ true → Links π D g

@@ -6,7 +6,8 @@ use native.Mathlib.Omega.{arith}
 use borrow.Author.Tests.{le-ltb}
 use Rattle.base.specs.Tests.{pick}
 use Rattle.image.specs.View.{View, Rec, after}
-use Rattle.volume.specs.Files.{Partition, len, name, present}
+use Rattle.volume.specs.Files.{len, name, present}
+use Rattle.volume.specs.declared.Partition.{Partition}
 use Rattle.volume.specs.Plans.{stores}
 use Rattle.volume.specs.Writes.{over, spot′, writePlan}
 use Rattle.frame.specs.Fitting.{Words}
@@ -34,7 +35,7 @@ module _ {π : Partition} {v : View} {f r : ℕ} (W : Writing π v f r) (dat : R
     written : Written π v X f r dat
     written = record {
       file = grew .file;
-      long = grew .length ∙ sym (ap (λ (t : Bool). pick t (len π v f) (suc r)) (le-ltb r (len π v f) (omega (arith, W .next))));
+      long = grew .length ∙ sym (ap (λ (t : Bool). pick t (len v f) (suc r)) (le-ltb r (len v f) (omega (arith, W .next))));
       here = λ x l. ap (λ (b : ℕ). X b x) new-name ∙ grew .wrote x l;
       rest = λ i l _ x m.
           let p : present π v f (292 + i) ≡ true = here-data π (at .low) (at .pos) v (W .ok) f (W .cf) i l in

@@ -13,7 +13,7 @@ use Rattle.inspect.specs.Parts.{Opened}
 use Rattle.inspect.proofs.Laws.{wf-opened}
 use Rattle.directory.specs.Paths.{file-in}
 
-module _ (d : ℕ) (l : List ℕ) (s e : ℕ) (i : Lies d l s e) (f : ℕ) (h : isFile (partitionOf d s e) (view l) f ≡ true) where
+module _ (d : ℕ) (l : List ℕ) (s e : ℕ) (i : Lies (partitionOf d s e) l) (f : ℕ) (h : isFile (partitionOf d s e) (view l) f ≡ true) where
   pub file-inside : 528 * f + 528 ≤ length l
   file-inside = let z = file-in (partitionOf d s e) l f h in let w = i .within in omega arith
 

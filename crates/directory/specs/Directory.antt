@@ -12,7 +12,8 @@ use Rattle.drive.specs.Address.{ldaBlock}
 use Rattle.image.specs.View.{pair}
 use Rattle.image.specs.Image.{view}
 use Rattle.volume.specs.Words.{dataOffset, fileTypeAt, rootAt}
-use Rattle.volume.specs.Files.{Partition, partitionOf, isLda, isFile, len, name}
+use Rattle.volume.specs.Files.{partitionOf, isLda, isFile, len, name}
+use Rattle.volume.specs.declared.Partition.{Partition}
 use Rattle.volume.specs.Answers.{lowest, partition, inPartition}
 use Rattle.volume.specs.declared.Found.{Found}
 use Rattle.volume.specs.declared.Found.the-variants.{At, Nothing}
@@ -144,7 +145,7 @@ module _ (π : Partition) (l : List ℕ) (sel : Selection) where
 
   -- the first entry of f with the name
   unfoldable pub find : List ℕ → ℕ → Found
-  find part f = lowest (hit part f) 0 (16 * len π (view l) f)
+  find part f = lowest (hit part f) 0 (16 * len (view l) f)
 
   -- what a name is in directory f: a file, dangling, or absent
   abbrev pub enteredAt : ℕ → Found → Looked
@@ -190,7 +191,7 @@ module _ (π : Partition) (l : List ℕ) (sel : Selection) where
   -- directory f with d levels left, this one counted: of nine, the root's entries have level 1
   unfoldable pub tree : ℕ → ℕ → List Item
   tree zero f = tenth f ∷ []
-  tree (suc d) f = entries (tree d) (9 - d) f 0 (16 * len π (view l) f)
+  tree (suc d) f = entries (tree d) (9 - d) f 0 (16 * len (view l) f)
 
 -- what a walk comes to that has filled n of m rows: it goes as far as there are rows
 unfoldable pub walked : ℕ → List Item → ℕ → Walk

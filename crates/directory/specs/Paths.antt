@@ -11,7 +11,8 @@ use Rattle.base.specs.Tests.{pick, both}
 use Rattle.base.specs.Laws.{both-left}
 use Rattle.image.specs.View.{pair}
 use Rattle.image.specs.Image.{view}
-use Rattle.volume.specs.Files.{Partition, name, len, isFile}
+use Rattle.volume.specs.Files.{name, len, isFile}
+use Rattle.volume.specs.declared.Partition.{Partition}
 use Rattle.volume.specs.Reads.{candidate-in}
 use Rattle.volume.specs.Steps.{lowest-at, more, none, Searching, search-starts-as, search-hit, search-next}
 use Rattle.volume.specs.declared.Found.{Found}
@@ -52,14 +53,14 @@ module _ (π : Partition) (l : List ℕ) (sel : Selection) (part : List ℕ) (f 
 pub find-to : (p : ℕ → Bool) (e a b : ℕ) {w : Found} → a ≡ b → Searching p e a w → Searching p e b w
 find-to p e a b h s = rw h at s
 
-pub find-starts : (π : Partition) (l : List ℕ) (sel : Selection) (part : List ℕ) (f k : ℕ) → k ≡ len π (view l) f → Searching (hit π l sel part f) (16 * k) (16 * 0) (find π l sel part f)
+pub find-starts : (π : Partition) (l : List ℕ) (sel : Selection) (part : List ℕ) (f k : ℕ) → k ≡ len (view l) f → Searching (hit π l sel part f) (16 * k) (16 * 0) (find π l sel part f)
 unfolding find
 find-starts π l sel part f k h = rw (find, ← h) (search-starts-as (hit π l sel part f) 0 (16 * k) (16 * k) (omega arith))
 
 -- an entry that is found lies in the directory
-pub found-below : (π : Partition) (l : List ℕ) (sel : Selection) (part : List ℕ) (f j : ℕ) → find π l sel part f ≡ At j → j < 16 * len π (view l) f
+pub found-below : (π : Partition) (l : List ℕ) (sel : Selection) (part : List ℕ) (f j : ℕ) → find π l sel part f ≡ At j → j < 16 * len (view l) f
 unfolding find
-found-below π l sel part f j h = let z = lowest-at (hit π l sel part f) 0 (16 * len π (view l) f) j h in omega arith
+found-below π l sel part f j h = let z = lowest-at (hit π l sel part f) 0 (16 * len (view l) f) j h in omega arith
 
 -- ---- what a name is in a directory
 

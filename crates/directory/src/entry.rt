@@ -10,12 +10,11 @@ ghost use Rattle.inspect.specs.Parts.{Opened};
 ghost use Rattle.directory.specs.Directory.{upper, sameName, hash, isRule, selected, takenAt, isDirectory, fileAt, rootOf, metAt};
 use crate::Met;
 use volume::Found;
+use volume::Partition;
+use volume::words::FILE_TYPE;
+use volume::words::ROOT;
 
-// Words of a PIB, of a description and of an entry, and the type of a directory.
-const ROOT: usize = 14;
-
-const FILE_TYPE: usize = 16;
-
+// Where the target of a block's first entry stands, and the file type of a directory.
 pub const TARGET: usize = 9;
 
 const DIRECTORY: usize = 3;
@@ -118,15 +117,15 @@ pub fn taken(img: &[u8], rule: &[u8], r: usize, at: usize) -> bool
 }
 
 // The file that x is the LDA of, or none.
-pub fn file_at(img: &[u8], drive: usize, s: usize, e: usize, x: usize) -> Found
-    requires { ⌜ (Lies drive (now img) s e) × (x < 4294967296) ⌝ }
-    ensures { λ r. ⌜ r ≡ fileAt (partitionOf drive s e) (now (img .entry)) x ⌝ }
+pub fn file_at(img: &[u8], p: Partition, x: usize) -> Found
+    requires { ⌜ (Lies p (now img)) × (x < 4294967296) ⌝ }
+    ensures { λ r. ⌜ r ≡ fileAt p (now (img .entry)) x ⌝ }
 {
-    let t = drive::lda_block(drive, x);
-    if drive::lda(drive, t) != x {
+    let t = drive::lda_block(p.drive, x);
+    if drive::lda(p.drive, t) != x {
         return Found::Nothing;
     }
-    if inspect::is_file(img, drive, s, e, t) {
+    if inspect::is_file(img, p, t) {
         Found::At(t)
     } else {
         Found::Nothing
@@ -134,11 +133,11 @@ pub fn file_at(img: &[u8], drive: usize, s: usize, e: usize, x: usize) -> Found
 }
 
 // The root directory.
-pub fn root(img: &[u8], drive: usize, s: usize, e: usize) -> Found
-    requires { ⌜ Lies drive (now img) s e ⌝ }
-    ensures { λ r. ⌜ r ≡ rootOf (partitionOf drive s e) (now (img .entry)) ⌝ }
+pub fn root(img: &[u8], p: Partition) -> Found
+    requires { ⌜ Lies p (now img) ⌝ }
+    ensures { λ r. ⌜ r ≡ rootOf p (now (img .entry)) ⌝ }
 {
-    file_at(img, drive, s, e, image::pair(img, s, ROOT))
+    file_at(img, p, image::pair(img, p.s, ROOT))
 }
 
 // Whether f is a directory by its file type.
@@ -150,17 +149,17 @@ pub fn is_directory(img: &[u8], f: usize) -> bool
 }
 
 // What entry j of directory f is.
-pub fn met(img: &[u8], drive: usize, s: usize, e: usize, rule: &[u8], f: usize, j: usize) -> Met
-    requires { ⌜ (Opened (partitionOf drive s e) (now img) f) × (j < 16 * len (partitionOf drive s e) (view (now img)) f) × (isRule (now rule) ≡ true) ⌝ }
-    ensures { λ m. ⌜ m ≡ metAt (partitionOf drive s e) (now (img .entry)) (selected (now (rule .entry))) f j ⌝ }
+pub fn met(img: &[u8], p: Partition, rule: &[u8], f: usize, j: usize) -> Met
+    requires { ⌜ (Opened p (now img) f) × (j < 16 * len (view (now img)) f) × (isRule (now rule) ≡ true) ⌝ }
+    ensures { λ m. ⌜ m ≡ metAt p (now (img .entry)) (selected (now (rule .entry))) f j ⌝ }
 {
     let r = j / 16;
     let i = j % 16;
-    let b = inspect::name(img, drive, s, e, f, r);
+    let b = inspect::name(img, p, f, r);
     if !taken(img, rule, r, 528 * b + 16 + ENTRY * i) {
         return Met::Skip;
     }
-    let x = file_at(img, drive, s, e, image::pair(img, b, TARGET + 16 * i));
+    let x = file_at(img, p, image::pair(img, b, TARGET + 16 * i));
     match x {
         Found::At(t) => {
             if is_directory(img, t) {

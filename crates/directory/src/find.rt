@@ -9,6 +9,7 @@ ghost use Rattle.inspect.specs.Parts.{Opened};
 ghost use Rattle.directory.specs.Directory.{sameName, isRule, selected, nameAt, takenAt, find};
 use crate::entry;
 use volume::Found;
+use volume::Partition;
 
 // Whether the entry at a place of the image, in block r of its directory, is taken and has the name.
 fn has_name(img: &[u8], rule: &[u8], r: usize, at: usize, part: &[u8]) -> bool
@@ -24,21 +25,13 @@ fn has_name(img: &[u8], rule: &[u8], r: usize, at: usize, part: &[u8]) -> bool
 }
 
 // The first entry with the name of f.
-pub fn find(
-    img: &[u8],
-    drive: usize,
-    s: usize,
-    e: usize,
-    rule: &[u8],
-    f: usize,
-    part: &[u8],
-) -> Found
-    requires { ⌜ (Opened (partitionOf drive s e) (now img) f) × (isRule (now rule) ≡ true) ⌝ }
-    ensures { λ a. ⌜ a ≡ find (partitionOf drive s e) (now (img .entry)) (selected (now (rule .entry))) (now (part .entry)) f ⌝ }
+pub fn find(img: &[u8], p: Partition, rule: &[u8], f: usize, part: &[u8]) -> Found
+    requires { ⌜ (Opened p (now img) f) × (isRule (now rule) ≡ true) ⌝ }
+    ensures { λ a. ⌜ a ≡ find p (now (img .entry)) (selected (now (rule .entry))) (now (part .entry)) f ⌝ }
 {
-    let k = inspect::len(img, drive, s, e, f);
+    let k = inspect::len(img, f);
     for r in 0..k {
-        let b = inspect::name(img, drive, s, e, f, r);
+        let b = inspect::name(img, p, f, r);
         for i in 0..16 {
             if has_name(img, rule, r, 528 * b + 16 + entry::ENTRY * i, part) {
                 return Found::At(16 * r + i);

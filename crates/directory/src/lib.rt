@@ -3,6 +3,7 @@ ghost use mathlib.Core.Path.{_≡_};
 ghost use Rattle.directory.specs.Directory.{lookUp};
 use volume::Outcome;
 use volume::Part;
+use volume::Partition;
 
 pub mod entry; // entry.rt: what an entry is, and the root
 mod find; // find.rt: an entry by its name
@@ -35,7 +36,7 @@ pub fn look_up(img: &[u8], drive: usize, s: usize, rule: &[u8], path: &[u8]) -> 
 {
     let p = inspect::partition(img, drive, s);
     match p {
-        Part::Good(e) => look::look_in(img, drive, s, e, rule, path),
+        Part::Good(e) => look::look_in(img, Partition { drive, s, e }, rule, path),
         Part::Refused(y) => Outcome::Refused(y),
     }
 }

@@ -13,6 +13,7 @@ use crate::find;
 use base::Refusal;
 use volume::Found;
 use volume::Outcome;
+use volume::Partition;
 
 // What stands between the names of a path: '>'.
 const SEPARATOR: usize = 62;
@@ -32,17 +33,17 @@ fn part_end(path: &[u8], p: usize) -> usize
 }
 
 // What a name is in directory f.
-fn enter(img: &[u8], drive: usize, s: usize, e: usize, rule: &[u8], f: usize, part: &[u8]) -> Looked
-    requires { ⌜ (Lies drive (now img) s e) × (isRule (now rule) ≡ true) × (isFile (partitionOf drive s e) (view (now img)) f ≡ true) ⌝ }
-    ensures { λ a. ⌜ a ≡ entered (partitionOf drive s e) (now (img .entry)) (selected (now (rule .entry))) (now (part .entry)) f ⌝ }
+fn enter(img: &[u8], p: Partition, rule: &[u8], f: usize, part: &[u8]) -> Looked
+    requires { ⌜ (Lies p (now img)) × (isRule (now rule) ≡ true) × (isFile p (view (now img)) f ≡ true) ⌝ }
+    ensures { λ a. ⌜ a ≡ entered p (now (img .entry)) (selected (now (rule .entry))) (now (part .entry)) f ⌝ }
 {
-    let x = find::find(img, drive, s, e, rule, f, part);
+    let x = find::find(img, p, rule, f, part);
     match x {
         Found::Nothing => Looked::Absent,
         Found::At(j) => {
-            let b = inspect::name(img, drive, s, e, f, j / 16);
+            let b = inspect::name(img, p, f, j / 16);
             let at = entry::TARGET + 16 * (j % 16);
-            let y = entry::file_at(img, drive, s, e, image::pair(img, b, at));
+            let y = entry::file_at(img, p, image::pair(img, b, at));
             match y {
                 Found::At(t) => Looked::File(t),
                 Found::Nothing => Looked::Dangling,
@@ -52,24 +53,16 @@ fn enter(img: &[u8], drive: usize, s: usize, e: usize, rule: &[u8], f: usize, pa
 }
 
 // A path that is not empty, from the root down.
-fn look(
-    img: &[u8],
-    drive: usize,
-    s: usize,
-    e: usize,
-    rule: &[u8],
-    root: usize,
-    path: &[u8],
-) -> Looked
-    requires { ⌜ (Lies drive (now img) s e) × (isRule (now rule) ≡ true) × (isFile (partitionOf drive s e) (view (now img)) root ≡ true) ⌝ }
-    ensures { λ a. ⌜ a ≡ look (partitionOf drive s e) (now (img .entry)) (selected (now (rule .entry))) 9 (now (path .entry)) 0 root ⌝ }
+fn look(img: &[u8], p: Partition, rule: &[u8], root: usize, path: &[u8]) -> Looked
+    requires { ⌜ (Lies p (now img)) × (isRule (now rule) ≡ true) × (isFile p (view (now img)) root ≡ true) ⌝ }
+    ensures { λ a. ⌜ a ≡ look p (now (img .entry)) (selected (now (rule .entry))) 9 (now (path .entry)) 0 root ⌝ }
 {
     let n = path.len();
     let mut f = root;
     let mut p = 0;
     for d in 0usize..9 {
         let q = part_end(path, p);
-        let x = enter(img, drive, s, e, rule, f, &path[p..q]);
+        let x = enter(img, p, rule, f, &path[p..q]);
         match x {
             Looked::File(t) => {
                 if n <= q {
@@ -96,22 +89,14 @@ fn look(
 }
 
 // A path from the root down.
-fn look_from(
-    img: &[u8],
-    drive: usize,
-    s: usize,
-    e: usize,
-    rule: &[u8],
-    root: usize,
-    path: &[u8],
-) -> Looked
-    requires { ⌜ (Lies drive (now img) s e) × (isRule (now rule) ≡ true) × (isFile (partitionOf drive s e) (view (now img)) root ≡ true) ⌝ }
-    ensures { λ a. ⌜ a ≡ lookFrom (partitionOf drive s e) (now (img .entry)) (selected (now (rule .entry))) root (now (path .entry)) ⌝ }
+fn look_from(img: &[u8], p: Partition, rule: &[u8], root: usize, path: &[u8]) -> Looked
+    requires { ⌜ (Lies p (now img)) × (isRule (now rule) ≡ true) × (isFile p (view (now img)) root ≡ true) ⌝ }
+    ensures { λ a. ⌜ a ≡ lookFrom p (now (img .entry)) (selected (now (rule .entry))) root (now (path .entry)) ⌝ }
 {
     if path.len() < 1 {
         return Looked::File(root);
     }
-    look(img, drive, s, e, rule, root, path)
+    look(img, p, rule, root, path)
 }
 
 // As the call answers it.
@@ -127,16 +112,16 @@ fn looked_as(x: Looked) -> Outcome
 }
 
 // Look up in the partition s to e.
-pub fn look_in(img: &[u8], drive: usize, s: usize, e: usize, rule: &[u8], path: &[u8]) -> Outcome
-    requires { ⌜ Lies drive (now img) s e ⌝ }
-    ensures { λ a. ⌜ a ≡ lookIn (partitionOf drive s e) (now (img .entry)) (now (rule .entry)) (now (path .entry)) ⌝ }
+pub fn look_in(img: &[u8], p: Partition, rule: &[u8], path: &[u8]) -> Outcome
+    requires { ⌜ Lies p (now img) ⌝ }
+    ensures { λ a. ⌜ a ≡ lookIn p (now (img .entry)) (now (rule .entry)) (now (path .entry)) ⌝ }
 {
     if !entry::is_rule(rule) {
         return Outcome::Refused(Refusal::BadBuffer);
     }
-    let x = entry::root(img, drive, s, e);
+    let x = entry::root(img, p);
     match x {
-        Found::At(root) => looked_as(look_from(img, drive, s, e, rule, root, path)),
+        Found::At(root) => looked_as(look_from(img, p, rule, root, path)),
         Found::Nothing => Outcome::Refused(Refusal::NoCandidate),
     }
 }

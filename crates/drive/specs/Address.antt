@@ -1,6 +1,8 @@
 -- Addresses on a drive by its number. A header holds physical addresses and a file's index logical ones: the two are never compared,
 -- each is turned into a block first. Two words are one number, low word + 65536 * high word; 0 is nil.
 use Prim.Native.Nat.{ℕ}
+use lib.Dec.{eqb}
+use Rattle.base.specs.Tests.{pick}
 use Rattle.drive.specs.Code.{encode, decode}
 use Rattle.drive.specs.Rows.{onDrive, pdaCode, ldaCode, idCode}
 
@@ -14,6 +16,10 @@ pda d b = onDrive (λ g. encode (pdaCode g) b) d
 
 unfoldable pub pdaBlock : ℕ → ℕ → ℕ
 pdaBlock d x = onDrive (λ g. decode (pdaCode g) x) d
+
+-- the PDA of a block, or nil for 0
+abbrev pub orNil : ℕ → ℕ → ℕ
+orNil d b = pick (eqb b 0) 0 (pda d b)
 
 -- the LDA of block b, and the only block whose LDA x can be
 unfoldable pub lda : ℕ → ℕ → ℕ

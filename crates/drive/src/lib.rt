@@ -1,7 +1,7 @@
 // Addresses of blocks on the four drives. An address of two words is one number, low word + 65536 * high word.
 ghost use mathlib.Core.Path.{_≡_};
 ghost use Prim.Native.Nat.{_-_, _*_, _<_, _≤_};
-ghost use Rattle.drive.specs.Address.{blocks, pda, pdaBlock, lda, ldaBlock, fileId, fileIdBlock, fileIds};
+ghost use Rattle.drive.specs.Address.{blocks, pda, pdaBlock, orNil, lda, ldaBlock, fileId, fileIdBlock, fileIds};
 ghost use Rattle.drive.specs.Answers.{converted, lbnToPda, pdaToLbn, lbnToLda, ldaToLbn, lbnToFileId, fileIdToLbn};
 ghost use lib.Dec.{ltb, eqb};
 ghost use Rattle.base.specs.Tests.{both};
@@ -48,6 +48,14 @@ pub fn pda(drive: usize, b: usize) -> usize
         2 => (b + 48) / 24 / 5 * 65536 + (b + 48) / 24 % 5 * 256 + (b + 48) % 24,
         _ => (b + 30) / 6 * 65536 + (b + 30) % 6 * 4 + 3,
     }
+}
+
+// The physical address of block b, or nil for 0.
+pub fn or_nil(drive: usize, b: usize) -> usize
+    requires { ⌜ b < 69552 ⌝ }
+    ensures { λ r. ⌜ (r ≡ orNil drive b) × (r < 4294967296) ⌝ }
+{
+    if b == 0 { 0 } else { pda(drive, b) }
 }
 
 // a - b, or 0.

@@ -1,5 +1,4 @@
-// The records of destroy. The file f has n blocks in use, the first in link order `top` and the last `last`; h is FreeHead's block and
-// `tail` FreeTail's. `alone`: the first is the FIB; `empty`: the last is.
+// The records and the stores of destroy.
 ghost use mathlib.Core.Path.{_≡_};
 ghost use mathlib.Core.List.{_∷_, []};
 ghost use Prim.Native.Nat.{_<_};
@@ -13,12 +12,25 @@ ghost use Rattle.records.specs.Records.{Block, StandsFor, Destroys};
 use image::Save;
 use records::lda_of;
 use records::pda_of;
-use records::words::FILLER;
-use records::words::FREE_TAIL;
-use records::words::NEXT;
-use records::words::NUMBER_FREE;
-use records::words::PREVIOUS;
-use records::words::SERIAL;
+use volume::words::FILLER;
+use volume::words::FREE_TAIL;
+use volume::words::NEXT;
+use volume::words::NUMBER_FREE;
+use volume::words::PREVIOUS;
+use volume::words::SERIAL;
+
+// What destroy releases: the file f with n blocks in use, the first in link order `top` and the last `last`; h is FreeHead's block and
+// `tail` FreeTail's. `alone`: the first is the FIB; `empty`: the last is.
+pub struct Release {
+    pub f: usize,
+    pub alone: bool,
+    pub empty: bool,
+    pub n: usize,
+    pub top: usize,
+    pub last: usize,
+    pub tail: usize,
+    pub h: usize,
+}
 
 // Block b as the last of a file that is gone: serial zero, FreeHead's LBN as filler.
 fn gone(img: &[u8], h: usize, b: usize) -> [u8; 528]
@@ -92,28 +104,15 @@ fn pib_more_save(img: &[u8], drive: usize, s: usize, last: usize, n: usize) -> S
 }
 
 // The stores of destroy: FIB, first block, last block, old free tail, PIB.
-pub fn destroy_store(
-    img: &mut [u8],
-    drive: usize,
-    s: usize,
-    f: usize,
-    alone: bool,
-    empty: bool,
-    n: usize,
-    top: usize,
-    last: usize,
-    tail: usize,
-    h: usize,
-    limit: usize,
-) -> usize
-    requires { ⌜ Destroys (now img) s f n top last tail ⌝ }
-    ensures { λ m. ⌜ Made limit (stores (destroyed drive (view (now (img .entry))) s f alone empty n top last tail h)) (now (img .entry)) (now (img .exit)) m ⌝ }
+pub fn destroy_store(img: &mut [u8], drive: usize, s: usize, w: Release, limit: usize) -> usize
+    requires { ⌜ Destroys (now img) s (w .f) (w .n) (w .top) (w .last) (w .tail) ⌝ }
+    ensures { λ m. ⌜ Made limit (stores (destroyed drive (view (now (img .entry))) s (w .f) (w .alone) (w .empty) (w .n) (w .top) (w .last) (w .tail) (w .h))) (now (img .entry)) (now (img .exit)) m ⌝ }
 {
-    let fib = fib_save(img, drive, h, tail, f, alone);
-    let low = top_save(img, drive, h, tail, top, alone);
-    let end = last_save(img, h, last, empty);
-    let joint = tail_save(img, drive, tail, top);
-    let pib = pib_more_save(img, drive, s, last, n);
+    let fib = fib_save(img, drive, w.h, w.tail, w.f, w.alone);
+    let low = top_save(img, drive, w.h, w.tail, w.top, w.alone);
+    let end = last_save(img, w.h, w.last, w.empty);
+    let joint = tail_save(img, drive, w.tail, w.top);
+    let pib = pib_more_save(img, drive, s, w.last, w.n);
     let z = image::none();
     image::perform(img, limit, fib, low, end, joint, pib, z, z)
 }

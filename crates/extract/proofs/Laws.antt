@@ -7,7 +7,8 @@ use native.Mathlib.Numerals.{add-one}
 use lib.ListN.{length, take, drop, length-append, length-drop}
 use lib.Seq.{take-all, take-at, length-take-le, drop-drop}
 use Rattle.image.specs.Image.{view}
-use Rattle.volume.specs.Files.{Partition, name}
+use Rattle.volume.specs.Files.{name}
+use Rattle.volume.specs.declared.Partition.{Partition}
 use Rattle.volume.specs.Answers.{blockBytes}
 use Rattle.reading.proofs.Laws.{span}
 use Rattle.extract.specs.Into.{dataOf, bytes-next}

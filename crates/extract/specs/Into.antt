@@ -6,7 +6,8 @@ use native.Mathlib.Omega.{arith}
 use lib.ListN.{length, take, drop}
 use Rattle.image.specs.Image.{view}
 use Rattle.volume.specs.Words.{dataOffset}
-use Rattle.volume.specs.Files.{Partition, partitionOf, name}
+use Rattle.volume.specs.Files.{partitionOf, name}
+use Rattle.volume.specs.declared.Partition.{Partition}
 use Rattle.volume.specs.Answers.{partition, blockBytes, extractIn, extractInto}
 use Rattle.volume.specs.declared.Part.{Part}
 use Rattle.volume.specs.declared.Part.the-variants.{Good, Refused}

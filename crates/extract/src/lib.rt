@@ -12,6 +12,7 @@ ghost use Rattle.extract.specs.Into.{extractedInto};
 use base::Refusal;
 use volume::Outcome;
 use volume::Part;
+use volume::Partition;
 
 // The bytes of src over those of the buffer from `at` on.
 fn put_at(buf: &mut [u8], at: usize, src: &[u8])
@@ -23,12 +24,12 @@ fn put_at(buf: &mut [u8], at: usize, src: &[u8])
 }
 
 // The k blocks of f, one after the other, into the buffer.
-fn copy_blocks(img: &[u8], drive: usize, s: usize, e: usize, f: usize, k: usize, buf: &mut [u8])
-    requires { ⌜ (Opened (partitionOf drive s e) (now img) f) × (k ≡ len (partitionOf drive s e) (view (now img)) f) × (length (now buf) ≡ 512 * k) ⌝ }
-    ensures { λ _. ⌜ now (buf .exit) ≡ blockBytes (partitionOf drive s e) (now (img .entry)) f 0 k ⌝ }
+fn copy_blocks(img: &[u8], p: Partition, f: usize, k: usize, buf: &mut [u8])
+    requires { ⌜ (Opened p (now img) f) × (k ≡ len (view (now img)) f) × (length (now buf) ≡ 512 * k) ⌝ }
+    ensures { λ _. ⌜ now (buf .exit) ≡ blockBytes p (now (img .entry)) f 0 k ⌝ }
 {
     for r in 0..k {
-        let b = inspect::name(img, drive, s, e, f, r);
+        let b = inspect::name(img, p, f, r);
         let from = 528 * b + 16;
         let end = from + 512;
         put_at(buf, 512 * r, &img[from..end]);
@@ -36,21 +37,21 @@ fn copy_blocks(img: &[u8], drive: usize, s: usize, e: usize, f: usize, k: usize,
 }
 
 // Extract in the partition s to e.
-fn extract_in(img: &[u8], drive: usize, s: usize, e: usize, f: usize, buf: &mut [u8]) -> Outcome
-    requires { ⌜ Lies drive (now img) s e ⌝ }
-    ensures { λ a. ⌜ (a ≡ extractIn (partitionOf drive s e) (view (now (img .entry))) f (length (now (buf .entry)))) × (now (buf .exit) ≡ extractInto (partitionOf drive s e) (now (img .entry)) f (now (buf .entry)) (extractIn (partitionOf drive s e) (view (now (img .entry))) f (length (now (buf .entry))))) ⌝ }
+fn extract_in(img: &[u8], p: Partition, f: usize, buf: &mut [u8]) -> Outcome
+    requires { ⌜ Lies p (now img) ⌝ }
+    ensures { λ a. ⌜ (a ≡ extractIn p (view (now (img .entry))) f (length (now (buf .entry)))) × (now (buf .exit) ≡ extractInto p (now (img .entry)) f (now (buf .entry)) (extractIn p (view (now (img .entry))) f (length (now (buf .entry))))) ⌝ }
 {
-    if !inspect::candidate(img, drive, s, e, f) {
+    if !inspect::candidate(img, p, f) {
         return Outcome::Refused(Refusal::NoCandidate);
     }
-    if !inspect::well_formed(img, drive, s, e, f) {
+    if !inspect::well_formed(img, p, f) {
         return Outcome::Refused(Refusal::Malformed(f));
     }
-    let k = inspect::len(img, drive, s, e, f);
+    let k = inspect::len(img, f);
     if buf.len() != 512 * k {
         return Outcome::Refused(Refusal::BadBuffer);
     }
-    copy_blocks(img, drive, s, e, f, k, buf);
+    copy_blocks(img, p, f, k, buf);
     Outcome::Done(k, 0, 0)
 }
 
@@ -60,7 +61,7 @@ pub fn extract(img: &[u8], drive: usize, s: usize, f: usize, buf: &mut [u8]) -> 
 {
     let p = inspect::partition(img, drive, s);
     match p {
-        Part::Good(e) => extract_in(img, drive, s, e, f, buf),
+        Part::Good(e) => extract_in(img, Partition { drive, s, e }, f, buf),
         Part::Refused(y) => Outcome::Refused(y),
     }
 }

@@ -9,12 +9,13 @@ use lib.Dec.{eqb}
 use lib.ListN.{length}
 use borrow.Author.Tests.{eqb-true, eqb-false, lt-ltb, le-ltb, eq-eqb, ne-eqb, le-leb}
 use Rattle.base.specs.Tests.{pick, count, those, occ, headOf, lastOf, above, below}
-use Rattle.drive.specs.Address.{pda, pdaBlock}
+use Rattle.drive.specs.Address.{pda, pdaBlock, orNil}
 use Rattle.drive.specs.Laws.{pda-back, pda-pos}
 use Rattle.image.specs.View.{View, pair}
 use Rattle.base.specs.Laws.{both-of}
 use Rattle.volume.specs.Words.{nextAt, previousAt}
-use Rattle.volume.specs.Files.{Partition, chain, chained, orNil, within, inside}
+use Rattle.volume.specs.Files.{chain, chained, within, inside}
+use Rattle.volume.specs.declared.Partition.{Partition}
 
 module _ (P : ℕ → Bool) where
   above-all : (b i k : ℕ) → b < i → above b (those i k P) ≡ headOf 0 (those i k P)
@@ -103,10 +104,10 @@ module _ (P : ℕ → Bool) where
   module _ (π : Partition) (u : View) where
     -- each block that passes points to the next that does
     abbrev pub Next : ℕ → ℕ → Type 0
-    Next i k = (b : ℕ) → i ≤ b → b < i + k → P b ≡ true → pair u b nextAt ≡ orNil π (headOf 0 (those (suc b) (i + k - suc b) P))
+    Next i k = (b : ℕ) → i ≤ b → b < i + k → P b ≡ true → pair u b nextAt ≡ orNil (π .drive) (headOf 0 (those (suc b) (i + k - suc b) P))
 
     next-down : (i k : ℕ) → Next i (suc k) → Next (suc i) k
-    next-down i k h b l m q = h b (omega arith) (omega arith) q ∙ ap (λ (y : ℕ). orNil π (headOf 0 (those (suc b) y P))) (let w : i + suc k - suc b ≡ suc i + k - suc b = omega arith in w)
+    next-down i k h b l m q = h b (omega arith) (omega arith) q ∙ ap (λ (y : ℕ). orNil (π .drive) (headOf 0 (those (suc b) y P))) (let w : i + suc k - suc b ≡ suc i + k - suc b = omega arith in w)
 
     pub chain-end : (fuel b : ℕ) → pair u b nextAt ≡ 0 → chain π u (suc fuel) b ≡ b ∷ []
     unfolding chain
@@ -131,8 +132,8 @@ module _ (P : ℕ → Bool) where
             → chain π u (suc fuel) (headOf 0 (pick t (i ∷ R) R)) ≡ pick t (i ∷ R) R
         go true q ne ih ih′ = on (eqb (headOf 0 R) 0) refl
           where
-            hx : pair u i nextAt ≡ orNil π (headOf 0 R)
-            hx = h i (omega arith) (omega arith) q ∙ ap (λ (y : ℕ). orNil π (headOf 0 (those (suc i) y P))) (let w : i + suc k - suc i ≡ k = omega arith in w)
+            hx : pair u i nextAt ≡ orNil (π .drive) (headOf 0 R)
+            hx = h i (omega arith) (omega arith) q ∙ ap (λ (y : ℕ). orNil (π .drive) (headOf 0 (those (suc i) y P))) (let w : i + suc k - suc i ≡ k = omega arith in w)
 
             on : (z : Bool) → eqb (headOf 0 R) 0 ≡ z → chain π u (suc fuel) i ≡ i ∷ R
             on true z =
@@ -144,14 +145,14 @@ module _ (P : ℕ → Bool) where
         go false q ne ih ih′ = ih′ ne
 
     abbrev pub Prev : ℕ → ℕ → ℕ → Type 0
-    Prev before i k = (b : ℕ) → i ≤ b → b < i + k → P b ≡ true → pair u b previousAt ≡ orNil π (lastOf before (those i (b - i) P))
+    Prev before i k = (b : ℕ) → i ≤ b → b < i + k → P b ≡ true → pair u b previousAt ≡ orNil (π .drive) (lastOf before (those i (b - i) P))
 
     pub chained-those : (before i k : ℕ) → Next i k → Prev before i k → chained π u before (those i k P) ≡ true
     unfolding those chained lastOf
     chained-those before i zero h g = refl
     chained-those before i (suc k) h g =
-        go (P i) refl (λ q. chained-those i (suc i) k (next-down i k h) (λ b l m r. g b (omega arith) (omega arith) r ∙ ap (orNil π) (last-step b l true q)))
-        (λ q. chained-those before (suc i) k (next-down i k h) (λ b l m r. g b (omega arith) (omega arith) r ∙ ap (orNil π) (last-step b l false q)))
+        go (P i) refl (λ q. chained-those i (suc i) k (next-down i k h) (λ b l m r. g b (omega arith) (omega arith) r ∙ ap (orNil (π .drive)) (last-step b l true q)))
+        (λ q. chained-those before (suc i) k (next-down i k h) (λ b l m r. g b (omega arith) (omega arith) r ∙ ap (orNil (π .drive)) (last-step b l false q)))
       where
         R : List ℕ
         R = those (suc i) k P
@@ -167,8 +168,8 @@ module _ (P : ℕ → Bool) where
 
         go : (t : Bool) → P i ≡ t → (P i ≡ true → chained π u i R ≡ true) → (P i ≡ false → chained π u before R ≡ true) → chained π u before (pick t (i ∷ R) R) ≡ true
         go true q a b =
-            both-of (eq-eqb _ _ (g i (omega arith) (omega arith) q ∙ ap (λ (n : ℕ). orNil π (lastOf before (those i n P))) (let w : i - i ≡ 0 = omega arith in w)))
-            (both-of (eq-eqb _ _ (h i (omega arith) (omega arith) q ∙ ap (λ (n : ℕ). orNil π (headOf 0 (those (suc i) n P))) (let w : i + suc k - suc i ≡ k = omega arith in w))) (a q))
+            both-of (eq-eqb _ _ (g i (omega arith) (omega arith) q ∙ ap (λ (n : ℕ). orNil (π .drive) (lastOf before (those i n P))) (let w : i - i ≡ 0 = omega arith in w)))
+            (both-of (eq-eqb _ _ (h i (omega arith) (omega arith) q ∙ ap (λ (n : ℕ). orNil (π .drive) (headOf 0 (those (suc i) n P))) (let w : i + suc k - suc i ≡ k = omega arith in w))) (a q))
         go false q a b = b q
 
   below-none : (b i k : ℕ) → b ≤ i → below b (those i k P) ≡ 0

@@ -5,7 +5,8 @@ use Prim.Native.Nat.{ℕ, zero, suc, _+_, _-_, _≤_, _<_}
 use native.Mathlib.Omega.{arith}
 use Rattle.base.specs.Tests.{both}
 use Rattle.image.specs.View.{View}
-use Rattle.volume.specs.Files.{Partition, candidate, isMalformed}
+use Rattle.volume.specs.Files.{candidate, isMalformed}
+use Rattle.volume.specs.declared.Partition.{Partition}
 use Rattle.volume.specs.Answers.{lowest, lowestMalformed, Unmarred}
 use Rattle.volume.specs.Frame.{Clean}
 use Rattle.volume.specs.declared.Found.the-variants.{Nothing}

@@ -5,7 +5,8 @@ use mathlib.Core.List.{List, []}
 use mathlib.Core.Bool.{true}
 use Prim.Native.Nat.{ℕ}
 use Rattle.image.specs.View.{View, Store, after, upd}
-use Rattle.volume.specs.Files.{Partition, unowned, candidate, wellFormed}
+use Rattle.volume.specs.Files.{unowned, candidate, wellFormed}
+use Rattle.volume.specs.declared.Partition.{Partition}
 use Rattle.volume.specs.Plans.{Plan}
 use Rattle.frame.specs.Turn.{Each, Calm, Turn}
 

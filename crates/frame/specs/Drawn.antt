@@ -10,10 +10,11 @@ use lib.ListN.{length, length-append}
 use borrow.Author.Tests.{ltb-true, ltb-false, eqb-true, eqb-false, eq-eqb}
 use Rattle.base.specs.Tests.{pick, headOf, lastOf, occ}
 use Rattle.base.specs.Laws.{both-left, both-right, both-of}
-use Rattle.drive.specs.Address.{lda}
+use Rattle.drive.specs.Address.{lda, orNil}
 use Rattle.image.specs.View.{View, Rec, pair, put2}
 use Rattle.volume.specs.Words.{nextAt, previousAt}
-use Rattle.volume.specs.Files.{Partition, isLda, inside, within, owned, free, freeHead, chained, sound, orNil}
+use Rattle.volume.specs.Files.{isLda, inside, within, owned, free, freeHead, chained, sound}
+use Rattle.volume.specs.declared.Partition.{Partition}
 use Rattle.frame.specs.Repair.{lda-self}
 use Rattle.volume.specs.Plans.{freeAt, newFirst, pibLess}
 use Rattle.frame.specs.Reading.{two, put2-off, put2-here, put-off}
@@ -68,8 +69,8 @@ unfolding chained
 chained-kept π v W x [] h k = refl
 chained-kept π v W x (y ∷ l) h k =
     let e = h y (omega (arith, occ-here y l)) in
-    both-of (ap (λ (z : Rec). eqb (two z previousAt) (orNil π x)) e ∙ both-left _ _ k)
-    (both-of (ap (λ (z : Rec). eqb (two z nextAt) (orNil π (headOf 0 l))) e ∙ both-left _ _ (both-right _ _ k))
+    both-of (ap (λ (z : Rec). eqb (two z previousAt) (orNil (π .drive) x)) e ∙ both-left _ _ k)
+    (both-of (ap (λ (z : Rec). eqb (two z nextAt) (orNil (π .drive) (headOf 0 l))) e ∙ both-left _ _ (both-right _ _ k))
     (chained-kept π v W y l (λ b m. h b (omega (arith, m, occ-more b y l))) (both-right _ _ (both-right _ _ k))))
 
 append-two : (l m n : List ℕ) → (l ++ m) ++ n ≡ l ++ (m ++ n)
@@ -142,7 +143,7 @@ module _ (π : Partition) (v : View) (so : sound π v ≡ true) (n : ℕ) (room 
     ways =
         let k = chained-end π v 0 (firsts π v n (freeHead π v)) (freeAt π v n ∷ s .rest) (sym (ap (chained π v 0) free-is) ∙ sound-chained π v so) in
         both-of (eq-eqb _ 0 (ap (λ (x : Rec). two x 6) (d .first) ∙ put2-here 6 0 _))
-        (both-of (ap (λ (x : ℕ). eqb x (orNil π (headOf 0 (s .rest)))) (ap (λ (x : Rec). two x 4) (d .first) ∙ next) ∙ both-left _ _ (both-right _ _ k))
+        (both-of (ap (λ (x : ℕ). eqb x (orNil (π .drive) (headOf 0 (s .rest)))) (ap (λ (x : Rec). two x 4) (d .first) ∙ next) ∙ both-left _ _ (both-right _ _ k))
         (chained-kept π v W (freeAt π v n) (s .rest) (λ b m. left-kept b (omega (arith, m, occ-more b (freeAt π v n) (s .rest))) (rest-apart b m)) (both-right _ _ (both-right _ _ k))))
       where
         next : two (newFirst (π .drive) v (freeAt π v n)) 4 ≡ pair v (freeAt π v n) 4

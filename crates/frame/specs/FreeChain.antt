@@ -15,7 +15,8 @@ use Rattle.base.specs.Laws.{cons-same, all-at, all-of, every-at, both-left, bot
 use Rattle.base.specs.Sums.{sum, sum-add, sum-nil, sum-most, sum-here}
 use Rattle.volume.specs.Words.{nextAt, previousAt, slotAt, freeHeadAt, freeTailAt, numberFreeAt}
 use Rattle.volume.specs.Keys.{home, number, child, first}
-use Rattle.volume.specs.Files.{Partition, isLda, inside, within, candidate, len, spot, present, wellFormed, owned, above, below, link, linkTest, linked, free, chain, chained, sound, freeSound}
+use Rattle.volume.specs.Files.{isLda, inside, within, candidate, len, spot, present, wellFormed, owned, above, below, link, linkTest, linked, free, chain, chained, sound, freeSound}
+use Rattle.volume.specs.declared.Partition.{Partition}
 use Rattle.volume.specs.Index.{span-at, span-of, unless-at, unless-of, or-at, or-of, present-low, present-high}
 use Rattle.volume.specs.Order.{above-is, below-is}
 use Rattle.volume.specs.Frame.{Clean, Shape, kept-len, kept-present, kept-spot, kept-link, kept-above, kept-below}
@@ -28,11 +29,11 @@ module _ (π : Partition) (v : View) (f : ℕ) where
   pub record Links : Type 0 where
     pub next : (k : ℕ) → present π v f k ≡ true → pair v (spot π v f k) nextAt ≡ link π v f (above π v f k)
     pub prev : (k : ℕ) → present π v f k ≡ true → pair v (spot π v f k) previousAt ≡ link π v f (below π v f k)
-    pub tail : (k i : ℕ) → k < home → present π v f k ≡ true → i < 128 → len π v f ≤ first (child k (slotAt i)) → pair v (spot π v f k) (slotAt i) ≡ 0
+    pub tail : (k i : ℕ) → k < home → present π v f k ≡ true → i < 128 → len v f ≤ first (child k (slotAt i)) → pair v (spot π v f k) (slotAt i) ≡ 0
 
   link-test : linked π v f ≡ true → (k : ℕ) → present π v f k ≡ true → linkTest π v f k ≡ true
   unfolding linked
-  link-test h k p = span-at (len π v f) (linkTest π v f) h k (present-low π v f k p) (present-high π v f k p)
+  link-test h k p = span-at (len v f) (linkTest π v f) h k (present-low π v f k p) (present-high π v f k p)
 
   pub links-of : linked π v f ≡ true → Links
   links-of h = record {
@@ -44,7 +45,7 @@ module _ (π : Partition) (v : View) (f : ℕ) where
   pub of-links : Links → linked π v f ≡ true
   unfolding linked every
   of-links h =
-      span-of (len π v f) (linkTest π v f) (λ k l m. unless-of _ _ (λ p. ap every
+      span-of (len v f) (linkTest π v f) (λ k l m. unless-of _ _ (λ p. ap every
       (cons-same (eq-eqb _ _ (h .next k p)) (cons-same (eq-eqb _ _ (h .prev k p))
       (cons-same {l = []} (or-of _ _ (λ q. all-of 128 _ (λ i n. or-of _ _ (λ g. eq-eqb _ _ (h .tail k i (leb-false home k q) p n (ltb-false _ _ g)))))) refl)))))
 

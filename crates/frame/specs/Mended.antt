@@ -13,12 +13,13 @@ use borrow.Author.Tests.{ltb-true, ltb-false, lt-ltb, eq-eqb, le-leb, leb-true, 
 use Rattle.base.specs.Tests.{pick, both, every, all, headOf, lastOf, occ}
 use Rattle.base.specs.Tests as tests
 use Rattle.base.specs.Laws.{cons-same, all-of, both-left, both-right, both-of}
-use Rattle.drive.specs.Address.{ldaBlock}
+use Rattle.drive.specs.Address.{ldaBlock, orNil}
 use Rattle.image.specs.View.{View, Rec, Store, after, pair, put, put2}
 use Rattle.volume.specs.Words.{nextAt, previousAt}
 use Rattle.volume.specs.Keys.{home, child, first}
 use Rattle.volume.specs.KeyLaws.{child-pair}
-use Rattle.volume.specs.Files.{Partition, isLda, inside, within, candidate, len, spot, present, wellFormed, fileOf, key, owned, unowned, above, below, link, tailTest, linkTest, linked, orNil, free, freeHead, chain, chained, sound, freeSound}
+use Rattle.volume.specs.Files.{isLda, inside, within, candidate, len, spot, present, wellFormed, fileOf, key, owned, unowned, above, below, link, tailTest, linkTest, linked, free, freeHead, chain, chained, sound, freeSound}
+use Rattle.volume.specs.declared.Partition.{Partition}
 use Rattle.volume.specs.Index.{file-back, key-back, member-owned, owned-in, span-of, unless-of, or-of}
 use Rattle.volume.specs.Frame.{Shape, Clean, Formed, formed, Agree, kept-len, agree-clean, agree-owned, agree-fileOf, agree-key}
 use Rattle.volume.specs.Plans.{trimmed, shaped, content, relinked, freed, repaired, repairedPib, repairStores}
@@ -57,21 +58,21 @@ module _ (π : Partition) (v : View) (c : Clean π v) where
   P : ℕ → Bool
   P b = not (owned π v b)
 
-  free-next : (b : ℕ) → (π .s) < b → b ≤ (π .e) → P b ≡ true → pair mended b nextAt ≡ orNil π (tests.above b (unowned π v))
+  free-next : (b : ℕ) → (π .s) < b → b ≤ (π .e) → P b ≡ true → pair mended b nextAt ≡ orNil (π .drive) (tests.above b (unowned π v))
   unfolding freed P put put2
   free-next b l m q =
       ap (λ (r : Rec). r 4 + 65536 * r 5) (mended-at b l m ∙ repaired-free π v (unowned π v) b (off (owned π v b) q))
-      ∙ word (orNil π (tests.above b (unowned π v)))
+      ∙ word (orNil (π .drive) (tests.above b (unowned π v)))
     where
       off : (t : Bool) → not t ≡ true → t ≡ false
       off true z = sym z
       off false z = refl
 
-  free-prev : (b : ℕ) → (π .s) < b → b ≤ (π .e) → P b ≡ true → pair mended b previousAt ≡ orNil π (tests.below b (unowned π v))
+  free-prev : (b : ℕ) → (π .s) < b → b ≤ (π .e) → P b ≡ true → pair mended b previousAt ≡ orNil (π .drive) (tests.below b (unowned π v))
   unfolding freed P put put2
   free-prev b l m q =
       ap (λ (r : Rec). r 6 + 65536 * r 7) (mended-at b l m ∙ repaired-free π v (unowned π v) b (off (owned π v b) q))
-      ∙ word (orNil π (tests.below b (unowned π v)))
+      ∙ word (orNil (π .drive) (tests.below b (unowned π v)))
     where
       off : (t : Bool) → not t ≡ true → t ≡ false
       off true z = sym z
@@ -81,7 +82,7 @@ module _ (π : Partition) (v : View) (c : Clean π v) where
   unfolding unowned P
   next b l m q =
       free-next b (omega arith) (omega arith) q
-      ∙ ap (orNil π) (above-those P b (suc (π .s)) ((π .e) - (π .s)) l m)
+      ∙ ap (orNil (π .drive)) (above-those P b (suc (π .s)) ((π .e) - (π .s)) l m)
 
   pub free-is : (unowned π v ≢ []) → (π .s) < (π .e) → 0 < (π .s) → free π mended ≡ unowned π v
   unfolding free unowned P repairedPib put put2
@@ -108,7 +109,7 @@ module _ (π : Partition) (v : View) (c : Clean π v) where
       of : fileOf π v (spot π mended f k) ≡ f
       of = agree-fileOf π v mended c agree _ ob ∙ file-back π mended f cf (clean f cf) k p
 
-      at-key : key π v (spot π mended f k) ≡ k
+      at-key : key v (spot π mended f k) ≡ k
       at-key = agree-key π v mended c agree _ ob ∙ key-back π mended f cf (clean f cf) k p
 
       rec-is : mended (spot π mended f k) ≡ relinked π v (spot π mended f k)
@@ -132,24 +133,24 @@ module _ (π : Partition) (v : View) (c : Clean π v) where
           ∙ ap₂ (λ (g j : ℕ). link π mended g (below π mended g j)) (file-back π mended f cf (clean f cf) k p) (key-back π mended f cf (clean f cf) k p)
 
       -- a word of the data, of the file f and the key k
-      words : (w : ℕ) → 8 ≤ w → mended (spot π mended f k) w ≡ shaped (len π v f) k (v (spot π mended f k)) w
+      words : (w : ℕ) → 8 ≤ w → mended (spot π mended f k) w ≡ shaped (len v f) k (v (spot π mended f k)) w
       unfolding relinked content
       words w l =
           ap (λ (r : Rec). r w) rec-is ∙ links-off _ _ (content π v (spot π mended f k)) w (λ z. omega arith) (λ z. omega arith) (λ z. omega arith) (λ z. omega arith)
-          ∙ ap₂ (λ (g j : ℕ). shaped (len π v g) j (v (spot π mended f k)) w) of at-key
+          ∙ ap₂ (λ (g j : ℕ). shaped (len v g) j (v (spot π mended f k)) w) of at-key
 
-      zero-word : k < home → (w : ℕ) → 8 ≤ w → len π mended f ≤ first (child k w) → mended (spot π mended f k) w ≡ 0
+      zero-word : k < home → (w : ℕ) → 8 ≤ w → len mended f ≤ first (child k w) → mended (spot π mended f k) w ≡ 0
       unfolding shaped trimmed
       zero-word l w g h =
           words w g
-          ∙ ap (λ (u : Bool). pick u (trimmed (len π v f) k (v (spot π mended f k))) (v (spot π mended f k)) w) (lt-ltb k home l)
+          ∙ ap (λ (u : Bool). pick u (trimmed (len v f) k (v (spot π mended f k))) (v (spot π mended f k)) w) (lt-ltb k home l)
           ∙ ap (λ (t : Bool). pick t 0 (v (spot π mended f k) w)) (both-of (le-leb 8 w g) (le-leb _ _ (subst (λ (x : ℕ). x ≤ first (child k w)) (sym (kept-len π v mended f kf)) h)))
 
       tail-at : k < home → (i : ℕ) → i < 128 → tailTest π mended f k i ≡ true
       tail-at l i m = or-of _ _ (λ q.
           let h = ltb-false _ _ q in
           eq-eqb _ _ (ap₂ (λ (x y : ℕ). x + 65536 * y) (zero-word l (8 + 2 * i) (omega arith) h)
-          (zero-word l (8 + 2 * i + 1) (omega arith) (subst (λ (j : ℕ). len π mended f ≤ first j) (child-pair k (8 + 2 * i) (8 + 2 * i + 1) l (omega arith)) h))))
+          (zero-word l (8 + 2 * i + 1) (omega arith) (subst (λ (j : ℕ). len mended f ≤ first j) (child-pair k (8 + 2 * i) (8 + 2 * i + 1) l (omega arith)) h))))
 
       link-at : every (eqb (pair mended (spot π mended f k) nextAt) (link π mended f (above π mended f k))
           ∷ eqb (pair mended (spot π mended f k) previousAt) (link π mended f (below π mended f k))
@@ -161,7 +162,7 @@ module _ (π : Partition) (v : View) (c : Clean π v) where
 
     linked-is : linked π mended f ≡ true
     unfolding linked
-    linked-is = span-of (len π mended f) (linkTest π mended f) (λ k l m. unless-of _ _ (λ p. link-at k p))
+    linked-is = span-of (len mended f) (linkTest π mended f) (λ k l m. unless-of _ _ (λ p. link-at k p))
 
   -- ---- the free chain
 
@@ -172,7 +173,7 @@ module _ (π : Partition) (v : View) (c : Clean π v) where
     prev : Prev P π mended 0 (suc (π .s)) ((π .e) - (π .s))
     unfolding unowned P
     prev b l m q =
-        free-prev b (omega arith) (omega arith) q ∙ ap (orNil π) (below-those P b (suc (π .s)) ((π .e) - (π .s)) (omega arith) l (omega arith))
+        free-prev b (omega arith) (omega arith) q ∙ ap (orNil (π .drive)) (below-those P b (suc (π .s)) ((π .e) - (π .s)) (omega arith) l (omega arith))
 
     some : (l : List ℕ) → l ≢ [] → 0 < length l
     some [] q = absurd (q refl)

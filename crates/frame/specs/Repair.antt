@@ -14,7 +14,8 @@ use Rattle.image.specs.View.{View, Rec, put, put2}
 use Rattle.base.specs.Laws.{both-left}
 use Rattle.volume.specs.Words.{nextAt, previousAt}
 use Rattle.volume.specs.Keys.{home, child, first, low}
-use Rattle.volume.specs.Files.{Partition, inside, isLda, address, owned, unowned}
+use Rattle.volume.specs.Files.{inside, isLda, address, owned, unowned}
+use Rattle.volume.specs.declared.Partition.{Partition}
 use Rattle.volume.specs.Index.{owned-not-pib}
 use Rattle.volume.specs.Frame.{Clean, Agree}
 use Rattle.frame.specs.Soft.{headed, headed-zero, both-no, tallyWord, spare, Soft, Quiet, soft-refl, soft-agree}

@@ -12,7 +12,8 @@ use Rattle.base.specs.Tests.{pick, tabFrom, headOf, lastOf}
 use Rattle.image.specs.View.{View, Rec, Store, after, upd, pair, put, put2}
 use Rattle.base.specs.Laws.{pick-same}
 use Rattle.volume.specs.Words.{nextAt, previousAt, freeHeadAt, freeTailAt}
-use Rattle.volume.specs.Files.{Partition, address, len, wellFormed, fileOf, key, owned, unowned, above, below, link}
+use Rattle.volume.specs.Files.{address, len, wellFormed, fileOf, key, owned, unowned, above, below, link}
+use Rattle.volume.specs.declared.Partition.{Partition}
 use Rattle.volume.specs.Index.{own, file-candidate, file-formed, owned-not-pib, present-low, present-high}
 use Rattle.volume.specs.Order.{above-is, below-is}
 use Rattle.volume.specs.Frame.{Shape, Clean, Formed, formed, kept-len, kept-above, kept-below, kept-link, agree-owned, agree-unowned, agree-fileOf, agree-key}
@@ -91,33 +92,33 @@ module _ (π : Partition) (v : View) (c : Clean π v) (v′ : View) (m : Mid π 
     kf : Shape π v v′ (fileOf π v b)
     kf = ag .shape (fileOf π v b) (file-candidate π v _ (own π v b o .file))
 
-    pub next-same : link π v (fileOf π v b) (above π v (fileOf π v b) (key π v b)) ≡ link π v′ (fileOf π v′ b) (above π v′ (fileOf π v′ b) (key π v′ b))
+    pub next-same : link π v (fileOf π v b) (above π v (fileOf π v b) (key v b)) ≡ link π v′ (fileOf π v′ b) (above π v′ (fileOf π v′ b) (key v′ b))
     next-same =
         let g = fileOf π v b in
-        let k = key π v b in
+        let k = key v b in
         kept-link π v v′ g kf (above π v g k) (λ n. above-is π v g cf k (present-high π v g k (own π v b o .here)) .hit n .0)
         ∙ ap (link π v′ g) (kept-above π v v′ g kf k)
         ∙ ap₂ (λ (x j : ℕ). link π v′ x (above π v′ x j)) (agree-fileOf π v v′ c ag b o) (agree-key π v v′ c ag b o)
 
-    pub prev-same : link π v (fileOf π v b) (below π v (fileOf π v b) (key π v b)) ≡ link π v′ (fileOf π v′ b) (below π v′ (fileOf π v′ b) (key π v′ b))
+    pub prev-same : link π v (fileOf π v b) (below π v (fileOf π v b) (key v b)) ≡ link π v′ (fileOf π v′ b) (below π v′ (fileOf π v′ b) (key v′ b))
     prev-same =
         let g = fileOf π v b in
-        let k = key π v b in
+        let k = key v b in
         kept-link π v v′ g kf (below π v g k) (λ n. below-is π v g cf k (present-low π v g k (own π v b o .here)) .hit n .0)
         ∙ ap (link π v′ g) (kept-below π v v′ g kf k)
         ∙ ap₂ (λ (x j : ℕ). link π v′ x (below π v′ x j)) (agree-fileOf π v v′ c ag b o) (agree-key π v v′ c ag b o)
 
-    shape-same : (r : Rec) → shaped (len π v (fileOf π v b)) (key π v b) r ≡ shaped (len π v′ (fileOf π v′ b)) (key π v′ b) r
+    shape-same : (r : Rec) → shaped (len v (fileOf π v b)) (key v b) r ≡ shaped (len v′ (fileOf π v′ b)) (key v′ b) r
     shape-same r =
-        ap₂ (λ (n k : ℕ). shaped n k r) (kept-len π v v′ (fileOf π v b) kf ∙ ap (len π v′) (agree-fileOf π v v′ c ag b o)) (agree-key π v v′ c ag b o)
+        ap₂ (λ (n k : ℕ). shaped n k r) (kept-len π v v′ (fileOf π v b) kf ∙ ap (len v′) (agree-fileOf π v v′ c ag b o)) (agree-key π v v′ c ag b o)
 
     content-same : (w : ℕ) → w ≢ 4 → w ≢ 5 → w ≢ 6 → w ≢ 7 → content π v b w ≡ content π v′ b w
     unfolding content relinked
     content-same w n4 n5 n6 n7 = go (m b (owned-not-pib π v b o)) ∙ ap (λ (r : Rec). r w) (shape-same (v′ b))
       where
         go : (v′ b ≡ v b) ⊎ (v′ b ≡ repaired π v (unowned π v) b) → content π v b w
-            ≡ shaped (len π v (fileOf π v b)) (key π v b) (v′ b) w
-        go (inl q) = ap (λ (r : Rec). shaped (len π v (fileOf π v b)) (key π v b) r w) (sym q)
+            ≡ shaped (len v (fileOf π v b)) (key v b) (v′ b) w
+        go (inl q) = ap (λ (r : Rec). shaped (len v (fileOf π v b)) (key v b) r w) (sym q)
         go (inr q) = shaped-twice _ _ (v b) (v′ b)
             (λ x m4 m5 m6 m7. ap (λ (r : Rec). r x) (q ∙ repaired-mine π v (unowned π v) b o) ∙ links-off _ _ (content π v b) x m4 m5 m6 m7) w n4 n5 n6 n7
 

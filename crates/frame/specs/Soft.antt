@@ -17,7 +17,8 @@ use Rattle.image.specs.View.{View, Rec, pair}
 use Rattle.volume.specs.Words.{serialAt}
 use Rattle.volume.specs.Keys.{home, up, slot, child, first}
 use Rattle.volume.specs.KeyLaws.{slot-fib, slot-low, child-slot, low-pos, asked-low, asked-high}
-use Rattle.volume.specs.Files.{Partition, inside, candidate, len, spot, present, wellFormed, fileOf, key, owned}
+use Rattle.volume.specs.Files.{inside, candidate, len, spot, present, wellFormed, fileOf, key, owned}
+use Rattle.volume.specs.declared.Partition.{Partition}
 use Rattle.volume.specs.Index.{spot-home, present-home, wf-of, file-back, key-back, member-owned, owned-in}
 use Rattle.volume.specs.Frame.{SameHead, same-serial, head-of, Kept, Clean, Agree}
 
@@ -78,8 +79,8 @@ module _ (π : Partition) (v : View) where
   unfoldable pub spare : ℕ → ℕ → Bool
   spare b w =
       let f = fileOf π v b in
-      let k = key π v b in
-      pick (eqb k home) (tallyWord w) (both (ltb k home) (leb (len π v f) (first (child k w))))
+      let k = key v b in
+      pick (eqb k home) (tallyWord w) (both (ltb k home) (leb (len v f) (first (child k w))))
 
   -- r instead of b's record changes links, filler and spare words alone
   pub record Soft (b : ℕ) (r : Rec) : Type 0 where
@@ -94,10 +95,10 @@ module _ (π : Partition) (v : View) where
 
   -- ---- the spare words of a file's blocks
   module _ (f : ℕ) (cf : candidate π v f ≡ true) (wf : wellFormed π v f ≡ true) where
-    pub spare-at : (k w : ℕ) → present π v f k ≡ true → spare (spot π v f k) w ≡ pick (eqb k home) (tallyWord w) (both (ltb k home) (leb (len π v f) (first (child k w))))
+    pub spare-at : (k w : ℕ) → present π v f k ≡ true → spare (spot π v f k) w ≡ pick (eqb k home) (tallyWord w) (both (ltb k home) (leb (len v f) (first (child k w))))
     unfolding spare
     spare-at k w p =
-        ap₂ (λ (j g : ℕ). pick (eqb j home) (tallyWord w) (both (ltb j home) (leb (len π v g) (first (child j w))))) (key-back π v f cf wf k p) (file-back π v f cf wf k p)
+        ap₂ (λ (j g : ℕ). pick (eqb j home) (tallyWord w) (both (ltb j home) (leb (len v g) (first (child j w))))) (key-back π v f cf wf k p) (file-back π v f cf wf k p)
 
     pub spare-fib : (w : ℕ) → spare f w ≡ tallyWord w
     spare-fib w = subst (λ (b : ℕ). spare b w ≡ tallyWord w) (spot-home π v f) (spare-at home w (present-home π v f))
@@ -105,19 +106,19 @@ module _ (π : Partition) (v : View) where
     pub spare-data : (k w : ℕ) → home < k → present π v f k ≡ true → spare (spot π v f k) w ≡ false
     unfolding both
     spare-data k w l p =
-        spare-at k w p ∙ ap₂ (λ (t u : Bool). pick t (tallyWord w) (both u (leb (len π v f) (first (child k w))))) (ne-eqb k home (λ z. omega arith)) (le-ltb k home (omega arith))
+        spare-at k w p ∙ ap₂ (λ (t u : Bool). pick t (tallyWord w) (both u (leb (len v f) (first (child k w))))) (ne-eqb k home (λ z. omega arith)) (le-ltb k home (omega arith))
 
     -- the entry of a key that L asks for is not spare
-    pub spare-entry : (k x : ℕ) → k ≢ home → x < 2 → present π v f (up k) ≡ true → (first k < len π v f) ⊎ (up k ≡ home) → spare (spot π v f (up k)) (slot k + x) ≡ false
+    pub spare-entry : (k x : ℕ) → k ≢ home → x < 2 → present π v f (up k) ≡ true → (first k < len v f) ⊎ (up k ≡ home) → spare (spot π v f (up k)) (slot k + x) ≡ false
     spare-entry k x n l p a = spare-at (up k) (slot k + x) p ∙ go (eqb (up k) home) refl a
       where
-        go : (t : Bool) → eqb (up k) home ≡ t → (first k < len π v f) ⊎ (up k ≡ home)
-            → pick t (tallyWord (slot k + x)) (both (ltb (up k) home) (leb (len π v f) (first (child (up k) (slot k + x))))) ≡ false
+        go : (t : Bool) → eqb (up k) home ≡ t → (first k < len v f) ⊎ (up k ≡ home)
+            → pick t (tallyWord (slot k + x)) (both (ltb (up k) home) (leb (len v f) (first (child (up k) (slot k + x))))) ≡ false
         go true q a = let r = slot-fib k n (eqb-true (up k) home q) in tally-not (slot k + x) (λ z. omega (arith, r .1)) (omega (arith, r .1))
         go false q (inr z) = absurd (eqb-false (up k) home q z)
         go false q (inl z) =
-            let c = child-slot k x (omega (arith, asked-low k (len π v f) z, low-pos (len π v f) (wf-of π v f wf .short))) (omega (arith, asked-high k (len π v f) z, wf-of π v f wf .short)) n l in
-            both-no _ _ (lt-leb _ _ (subst (λ (j : ℕ). first j < len π v f) (sym c) z))
+            let c = child-slot k x (omega (arith, asked-low k (len v f) z, low-pos (len v f) (wf-of π v f wf .short))) (omega (arith, asked-high k (len v f) z, wf-of π v f wf .short)) n l in
+            both-no _ _ (lt-leb _ _ (subst (λ (j : ℕ). first j < len v f) (sym c) z))
 
     -- what keeps f: its own blocks softly changed
     module _ (v′ : View) (soft-at : (k : ℕ) → present π v f k ≡ true → Soft (spot π v f k) (v′ (spot π v f k))) where
@@ -147,7 +148,7 @@ module _ (π : Partition) (v : View) where
         bytes = λ k l p w h. soft-at k p .words w h (spare-data k w l p);
       }
         where
-          word : (k : ℕ) → k ≢ home → present π v f (up k) ≡ true → (first k < len π v f) ⊎ (up k ≡ home) → (x : ℕ) → x < 2
+          word : (k : ℕ) → k ≢ home → present π v f (up k) ≡ true → (first k < len v f) ⊎ (up k ≡ home) → (x : ℕ) → x < 2
               → v (spot π v f (up k)) (slot k + x) ≡ v′ (spot π v f (up k)) (slot k + x)
           word k n p a x l = soft-at (up k) p .words (slot k + x) (omega (arith, slot-low k)) (spare-entry k x n l p a)
 

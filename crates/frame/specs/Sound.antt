@@ -13,7 +13,8 @@ use Rattle.base.specs.Laws.{all-at, every-at, both-left, both-right}
 use Rattle.drive.specs.Address.{pdaBlock, ldaBlock}
 use Rattle.image.specs.View.{View, pair}
 use Rattle.volume.specs.Words.{freeHeadAt, freeTailAt, nextAt, numberFreeAt}
-use Rattle.volume.specs.Files.{Partition, isLda, inside, within, candidate, wellFormed, owned, unowned, linked, fileTest, free, freeHead, chain, chained, sound, freeSound}
+use Rattle.volume.specs.Files.{isLda, inside, within, candidate, wellFormed, owned, unowned, linked, fileTest, free, freeHead, chain, chained, sound, freeSound}
+use Rattle.volume.specs.declared.Partition.{Partition}
 use Rattle.volume.specs.Frame.{Clean}
 use Rattle.frame.specs.Repair.{lda-block}
 use Rattle.frame.specs.Chain.{occ-in}

@@ -8,7 +8,8 @@ use native.Mathlib.Omega.{arith}
 use lib.ListN.{length}
 use Rattle.base.specs.Tests.{occ}
 use Rattle.image.specs.View.{View}
-use Rattle.volume.specs.Files.{Partition, inside, owned, free, freeHead, sound}
+use Rattle.volume.specs.Files.{inside, owned, free, freeHead, sound}
+use Rattle.volume.specs.declared.Partition.{Partition}
 use Rattle.frame.specs.Sound.{occ-here, occ-more, after₁, firsts, free-starts, free-in, free-not, free-once}
 use Rattle.volume.specs.Plans.{freeAt}
 

@@ -13,7 +13,8 @@ use Rattle.base.specs.Tests.{pick}
 use Rattle.base.specs.Laws.{both-left, iff-eq}
 use Rattle.image.specs.View.{View, Rec, Store, after, upd}
 use Rattle.volume.specs.Keys.{home}
-use Rattle.volume.specs.Files.{Partition, inside, candidate, wellFormed, spot, present, fileOf, key, owned}
+use Rattle.volume.specs.Files.{inside, candidate, wellFormed, spot, present, fileOf, key, owned}
+use Rattle.volume.specs.declared.Partition.{Partition}
 use Rattle.volume.specs.Index.{spot-home, present-home, own, file-candidate, member-owned, file-back, owned-in}
 use Rattle.volume.specs.Frame.{SameHead, Kept, Clean, Agree, kept-present, kept-spot, kept-wellFormed}
 use Rattle.frame.specs.Soft.{headed, headed-is, headed-same, cand-in, Soft, Quiet, soft-refl, soft-agree, soft-kept}
@@ -152,15 +153,15 @@ module _ (π : Partition) (v : View) (c : Clean π v) where
           no p true q =
               let w = own π v′ b p in
               let z = eqb-true (fileOf π v′ b) f q in
-              m (subst (λ (y : ℕ). candidate π v′ y ≡ true) z (file-candidate π v′ _ (w .file))) (key π v′ b)
-              (subst (λ (y : ℕ). present π v′ y (key π v′ b) ≡ true) z (w .here)) (ap (λ (y : ℕ). spot π v′ y (key π v′ b)) (sym z) ∙ w .back)
+              m (subst (λ (y : ℕ). candidate π v′ y ≡ true) z (file-candidate π v′ _ (w .file))) (key v′ b)
+              (subst (λ (y : ℕ). present π v′ y (key v′ b) ≡ true) z (w .here)) (ap (λ (y : ℕ). spot π v′ y (key v′ b)) (sym z) ∙ w .back)
           no p false q =
               let u = own π v′ b p in
               let n = eqb-false (fileOf π v′ b) f q in
               let h = t .cands _ n ∙ file-candidate π v′ _ (u .file) in
               let s = t .others _ n h .shape in
-              let l = kept-present π v v′ _ s (key π v′ b) ∙ u .here in
-              true≢false (sym (subst (λ (y : ℕ). owned π v y ≡ true) (kept-spot π v v′ _ s (key π v′ b) l ∙ u .back) (member-owned π v _ h (c _ h) (key π v′ b) l)) ∙ o)
+              let l = kept-present π v v′ _ s (key v′ b) ∙ u .here in
+              true≢false (sym (subst (λ (y : ℕ). owned π v y ≡ true) (kept-spot π v v′ _ s (key v′ b) l ∙ u .back) (member-owned π v _ h (c _ h) (key v′ b) l)) ∙ o)
 
           go : (x : Bool) → owned π v′ b ≡ x → x ≡ false
           go true p = absurd (no p _ refl)

@@ -11,7 +11,8 @@ use Rattle.base.specs.Laws.{both-left}
 use Rattle.image.specs.View.{View}
 use Rattle.volume.specs.Keys.{home, reach, first, low}
 use Rattle.volume.specs.KeyLaws.{asked-low, asked-high, low-home, first-data, first-pointer, first-doubles}
-use Rattle.volume.specs.Files.{Partition, inside, len, spot, present, key, owned}
+use Rattle.volume.specs.Files.{inside, len, spot, present, key, owned}
+use Rattle.volume.specs.declared.Partition.{Partition}
 use Rattle.volume.specs.Index.{here-of, spot-home, present-home, wf-of, member, member-owned, key-back}
 use Rattle.volume.specs.Plans.{freeAt}
 use Rattle.volume.specs.Writes.{over, needs, isNew, fresh, present′, spot′}
@@ -51,7 +52,7 @@ module _ (π : Partition) (v : View) (f r : ℕ) where
   module _ (ok : Ready π v f r) where
     -- ---- L: one block more
 
-    pub len-more : len π v f ≤ suc r
+    pub len-more : len v f ≤ suc r
     len-more = omega (arith, ok .next)
 
     pub len-short : suc r ≤ reach
@@ -74,7 +75,7 @@ module _ (π : Partition) (v : View) (f r : ℕ) where
 
     -- what is asked for is present: block r and, where it is the first of a pointer block, that block are new
     pub full′ : (k : ℕ) → first k < suc r → present′ π v f r k ≡ true
-    full′ k l = go (ltb (first k) (len π v f)) refl
+    full′ k l = go (ltb (first k) (len v f)) refl
       where
         data-key : home < k → r ≤ first k → present′ π v f r k ≡ true
         data-key h m =
@@ -104,9 +105,9 @@ module _ (π : Partition) (v : View) (f r : ℕ) where
             let c = eqb-false k home y in
             absurd (omega (arith, first-doubles k (omega arith) (omega arith), len-short))
 
-        go : (t : Bool) → ltb (first k) (len π v f) ≡ t → present′ π v f r k ≡ true
+        go : (t : Bool) → ltb (first k) (len v f) ≡ t → present′ π v f r k ≡ true
         go true q = present-old k (wf-of π v f (ok .formed) .full k (ltb-true _ _ q))
-        go false q = last (omega (arith, ltb-false (first k) (len π v f) q, ok .next)) (ltb home k) refl (ltb 288 k) refl (eqb k home) refl
+        go false q = last (omega (arith, ltb-false (first k) (len v f) q, ok .next)) (ltb home k) refl (ltb 288 k) refl (eqb k home) refl
 
     -- ---- old keys keep their blocks, and each key has its own
 
@@ -133,7 +134,7 @@ module _ (π : Partition) (v : View) (f r : ℕ) where
         go (inl x) (inl y) = fresh-one π v f r ok j k x y (sym (spot-new j x) ∙ q ∙ spot-new k y)
         go (inl x) (inr y) = absurd (true≢false (sym (old-owned k y) ∙ ap (owned π v) (sym (spot-is k y) ∙ sym q ∙ spot-new j x) ∙ fresh-free π v f r ok j x))
         go (inr x) (inl y) = absurd (true≢false (sym (old-owned j x) ∙ ap (owned π v) (sym (spot-is j x) ∙ q ∙ spot-new k y) ∙ fresh-free π v f r ok k y))
-        go (inr x) (inr y) = sym (key-back π v f (ok .cand) (ok .formed) j x) ∙ ap (key π v) (sym (spot-is j x) ∙ q ∙ spot-is k y) ∙ key-back π v f (ok .cand) (ok .formed) k y
+        go (inr x) (inr y) = sym (key-back π v f (ok .cand) (ok .formed) j x) ∙ ap (key v) (sym (spot-is j x) ∙ q ∙ spot-is k y) ∙ key-back π v f (ok .cand) (ok .formed) k y
 
     pub spot-in : (k : ℕ) → present′ π v f r k ≡ true → inside π (spot′ π v f r k) ≡ true
     spot-in k p = go (present-split k p)

@@ -12,7 +12,8 @@ use Rattle.base.specs.Laws.{both-left, both-right, both-of}
 use Rattle.image.specs.View.{View, Rec}
 use Rattle.volume.specs.Keys.{home, number, up, slot, child, first}
 use Rattle.volume.specs.KeyLaws.{child-slot, number-fib, first-data, up-most}
-use Rattle.volume.specs.Files.{Partition, len, spot, present, above, below}
+use Rattle.volume.specs.Files.{len, spot, present, above, below}
+use Rattle.volume.specs.declared.Partition.{Partition}
 use Rattle.volume.specs.Index.{spot-home, wf-of, member, file-back, present-few}
 use Rattle.volume.specs.Writes.{over, needs, isNew, fresh, present′, spot′, above′, below′, base, holds, grown, store}
 use Rattle.frame.specs.Soft.{tallyWord, headed, headed-rel, spare, spare-at, Soft}
@@ -33,13 +34,13 @@ module _ (π : Partition) (v : View) (f r : ℕ) (dat : Rec) (ok : Ready π v f 
       go false q = omega (arith, ltb-false (suc i) (needs π v f r) q)
 
   -- what it gains is an entry that L does not ask for
-  beyond : (i : ℕ) → i < needs π v f r → over r (suc i) ≢ home → len π v f ≤ first (over r i)
+  beyond : (i : ℕ) → i < needs π v f r → over r (suc i) ≢ home → len v f ≤ first (over r i)
   unfolding over
   beyond zero l n = omega (arith, first-data (292 + r) (omega arith), ok .next)
-  beyond (suc zero) l n = go (ltb (first (over r 1)) (len π v f)) refl
+  beyond (suc zero) l n = go (ltb (first (over r 1)) (len v f)) refl
     where
-      go : (t : Bool) → ltb (first (over r 1)) (len π v f) ≡ t → len π v f ≤ first (over r 1)
-      go false q = ltb-false (first (over r 1)) (len π v f) q
+      go : (t : Bool) → ltb (first (over r 1)) (len v f) ≡ t → len v f ≤ first (over r 1)
+      go false q = ltb-false (first (over r 1)) (len v f) q
       go true q = absurd (true≢false (sym (wf-of π v f (ok .formed) .full (over r 1) (ltb-true _ _ q)) ∙ new-absent π v f r ok 1 l))
   beyond (suc (suc zero)) l n = absurd (n (three π v f r ok (omega (arith, needs-most π v f r ok))))
   beyond (suc (suc (suc i))) l n = absurd (omega (arith, needs-most π v f r ok))
@@ -75,13 +76,13 @@ module _ (π : Partition) (v : View) (f r : ℕ) (dat : Rec) (ok : Ready π v f 
               mine : child k w ≡ over r i
               mine = ap₂ child (sym holder) z ∙ child-slot (over r i) y (over-pos π v f r ok i (omega (arith, less))) (over-few π v f r ok i) (new-not-home π v f r ok i less) m
 
-              far : len π v f ≤ first (child k w)
-              far = subst (λ (j : ℕ). len π v f ≤ first j) (sym mine) (beyond i less (λ q. n (sym e ∙ q)))
+              far : len v f ≤ first (child k w)
+              far = subst (λ (j : ℕ). len v f ≤ first j) (sym mine) (beyond i less (λ q. n (sym e ∙ q)))
 
               spared : spare π v (spot π v f k) w ≡ true
               spared =
                   spare-at π v f (ok .cand) (ok .formed) k w p
-                  ∙ ap (λ (t : Bool). pick t (tallyWord w) (both (ltb k home) (leb (len π v f) (first (child k w))))) (ne-eqb k home n)
+                  ∙ ap (λ (t : Bool). pick t (tallyWord w) (both (ltb k home) (leb (len v f) (first (child k w))))) (ne-eqb k home n)
                   ∙ both-of (lt-ltb k home (omega (arith, up-most (over r i), holder, n))) (le-leb _ _ far)
 
   quiet-new : (k : ℕ) → isNew π v f r k ≡ true → Calm π v (spot′ π v f r k) (grown π v f r dat k)

@@ -11,7 +11,8 @@ use Rattle.base.specs.Tests.{pick}
 use Rattle.base.specs.Laws.{both-left}
 use Rattle.image.specs.View.{View, Rec, Store, after, upd, upd-same, upd-other, put, put2}
 use Rattle.volume.specs.Keys.{home}
-use Rattle.volume.specs.Files.{Partition, inside, wellFormed, present, unowned, above, below}
+use Rattle.volume.specs.Files.{inside, wellFormed, present, unowned, above, below}
+use Rattle.volume.specs.declared.Partition.{Partition}
 use Rattle.volume.specs.Frame.{Clean}
 use Rattle.volume.specs.Plans.{Plan, stores, freeAt, newFirst, pibLess, takenStores}
 use Rattle.volume.specs.Writes.{over, needs, isNew, present′, spot′, above′, below′, grown, store, planOf}

@@ -8,7 +8,8 @@ use Rattle.base.specs.Tests.{pick}
 use Rattle.drive.specs.Address.{lda}
 use Rattle.image.specs.View.{View, Rec, pair}
 use Rattle.volume.specs.Keys.{home, up, slot}
-use Rattle.volume.specs.Files.{Partition, isLda, len, spot, present, entry, above, below}
+use Rattle.volume.specs.Files.{isLda, len, spot, present, entry, above, below}
+use Rattle.volume.specs.declared.Partition.{Partition}
 use Rattle.volume.specs.Index.{entry-at}
 use Rattle.volume.specs.Frame.{SameHead, head-of, head-trans}
 use Rattle.volume.specs.Writes.{over, needs, isNew, fresh, present′, spot′, above′, below′, least′, grown}
@@ -81,7 +82,7 @@ module _ (π : Partition) (v : View) (f r : ℕ) (dat : Rec) (ok : Ready π v f 
                 ap (λ (x : Rec). two x (slot k)) (z .same) ∙ ap (λ (b : ℕ). pair v b (slot k)) (spot-old π v f r (up k) q) ∙ sym (entry-at π v f k)
                 ∙ sym (ap₂ (λ (t u : Bool). pick t (lda (π .drive) (fresh π v f r k)) (pick u 0 (entry π v f k))) h q)
 
-    length-is : len π W f ≡ suc r
+    length-is : len W f ≡ suc r
     unfolding len
     length-is = ap (λ (x : Rec). (x 258 + 1) % 65536) (d .fib) ∙ ap (λ (x : ℕ). (x + 1) % 65536) (fib-length π v f r dat ok) ∙ omega (arith, ok .far)
 

@@ -12,7 +12,8 @@ use Rattle.base.specs.Tests.{pick}
 use Rattle.image.specs.View.{View, Rec}
 use Rattle.volume.specs.Keys.{home}
 use Rattle.volume.specs.KeyLaws.{up-most}
-use Rattle.volume.specs.Files.{Partition, end, present, above, below, least}
+use Rattle.volume.specs.Files.{end, present, above, below, least}
+use Rattle.volume.specs.declared.Partition.{Partition}
 use Rattle.volume.specs.Index.{present-home, wf-of}
 use Rattle.volume.specs.Order.{least-is, least-present}
 use Rattle.volume.specs.Writes.{over, inner, needs, isNew, above′, below′, early}
@@ -68,18 +69,18 @@ module _ (π : Partition) (v : View) (f r : ℕ) where
   lasts = pick (leb 2 (needs π v f r)) (least π v f ∷ []) []
 
   abbrev others : List ℕ
-  others = over r 1 ∷ (end π v f ∷ lasts)
+  others = over r 1 ∷ (end v f ∷ lasts)
 
   pub early-few : length (early π v f r) ≤ 4
   unfolding early
   early-few = go (leb 2 (needs π v f r))
     where
-      go : (t : Bool) → length (over r 0 ∷ inner (over r 1 ∷ (end π v f ∷ pick t (least π v f ∷ []) []))) ≤ 4
-      go true = omega (arith, inner-length (over r 1 ∷ (end π v f ∷ least π v f ∷ [])))
-      go false = omega (arith, inner-length (over r 1 ∷ (end π v f ∷ [])))
+      go : (t : Bool) → length (over r 0 ∷ inner (over r 1 ∷ (end v f ∷ pick t (least π v f ∷ []) []))) ≤ 4
+      go true = omega (arith, inner-length (over r 1 ∷ (end v f ∷ least π v f ∷ [])))
+      go false = omega (arith, inner-length (over r 1 ∷ (end v f ∷ [])))
 
   module _ (ok : Ready π v f r) where
-    last-there : present π v f (end π v f) ≡ true
+    last-there : present π v f (end v f) ≡ true
     last-there = wf-of π v f (ok .formed) .ends
 
     least-there : present π v f (least π v f) ≡ true
@@ -112,7 +113,7 @@ module _ (π : Partition) (v : View) (f r : ℕ) where
     early-once = (all-inner (λ y. over r 0 ≢ y) others (all-map (λ k. k < over r 0) _ (λ k l _ z. omega arith) others below-r), distinct-inner others apart)
       where
         below-r : All (λ k. k < over r 0) others
-        below-r = (omega (arith, over-low, over-zero r), (last-new π v f r ok (end π v f) last-there, all-pick (λ k. k < over r 0) (leb 2 (needs π v f r)) _ _ (λ _. (last-new π v f r ok (least π v f) least-there, tt)) (λ _. tt)))
+        below-r = (omega (arith, over-low, over-zero r), (last-new π v f r ok (end v f) last-there, all-pick (λ k. k < over r 0) (leb 2 (needs π v f r)) _ _ (λ _. (last-new π v f r ok (least π v f) least-there, tt)) (λ _. tt)))
 
         apart : Apart others
         apart = (
@@ -122,7 +123,7 @@ module _ (π : Partition) (v : View) (f r : ℕ) where
                 (λ q. ((λ m z. true≢false (sym least-there ∙ ap (present π v f) (sym z) ∙ new-absent π v f r ok 1 (leb-true _ _ q))), tt)) (λ _. tt),
           )),
           (
-            (λ n. all-pick (λ y. y ≢ home → end π v f ≢ y) (leb 2 (needs π v f r)) _ _ (λ _. ((λ m z. omega (arith, least-low, n, m, z)), tt)) (λ _. tt)),
+            (λ n. all-pick (λ y. y ≢ home → end v f ≢ y) (leb 2 (needs π v f r)) _ _ (λ _. ((λ m z. omega (arith, least-low, n, m, z)), tt)) (λ _. tt)),
             tail (leb 2 (needs π v f r)),
           ),
         )
@@ -154,7 +155,7 @@ module _ (π : Partition) (v : View) (f r : ℕ) where
       other-has k n h = mem-later k (over r 0) (inner others) (mem-inner k n others h)
 
       over-has : over r 1 ≢ home → mem (over r 1) (early π v f r) ≡ true
-      over-has n = other-has (over r 1) n (mem-here (over r 1) (end π v f ∷ lasts))
+      over-has n = other-has (over r 1) n (mem-here (over r 1) (end v f ∷ lasts))
 
       news : (k : ℕ) → isNew π v f r k ≡ true → mem k (early π v f r) ≡ true
       unfolding early
@@ -177,12 +178,12 @@ module _ (π : Partition) (v : View) (f r : ℕ) where
           no : mem k others ≡ true → ⊥
           no h = true≢false (sym (other-has k n h) ∙ out)
 
-          end-has : (k : ℕ) → k ≡ end π v f → mem k others ≡ true
-          end-has k z = subst (λ (j : ℕ). mem j others ≡ true) (sym z) (mem-later (end π v f) (over r 1) (end π v f ∷ lasts) (mem-here (end π v f) lasts))
+          end-has : (k : ℕ) → k ≡ end v f → mem k others ≡ true
+          end-has k z = subst (λ (j : ℕ). mem j others ≡ true) (sym z) (mem-later (end v f) (over r 1) (end v f ∷ lasts) (mem-here (end v f) lasts))
 
           least-has : (k : ℕ) → needs π v f r ≡ 2 → k ≡ least π v f → mem k others ≡ true
           least-has k q z = subst (λ (j : ℕ). mem j others ≡ true) (sym z)
-              (mem-later (least π v f) (over r 1) (end π v f ∷ lasts) (mem-later (least π v f) (end π v f) lasts
+              (mem-later (least π v f) (over r 1) (end v f ∷ lasts) (mem-later (least π v f) (end v f) lasts
               (ap (λ (t : Bool). mem (least π v f) (pick t (least π v f ∷ []) [])) (le-leb 2 (needs π v f r) (omega arith)) ∙ mem-here (least π v f) [])))
 
       pub early-order : Order π v f r dat ok (early π v f r)

@@ -16,7 +16,8 @@ use Rattle.image.specs.Saves.{withData}
 use Rattle.image.specs.Stores.{Fits}
 use Rattle.volume.specs.Keys.{home, number, slot, low, span}
 use Rattle.volume.specs.KeyLaws.{slot-high, span-end}
-use Rattle.volume.specs.Files.{Partition, isLda, address, inside, spot}
+use Rattle.volume.specs.Files.{isLda, address, inside, spot}
+use Rattle.volume.specs.declared.Partition.{Partition}
 use Rattle.volume.specs.Plans.{freeAt}
 use Rattle.volume.specs.Writes.{put2If, over, counted, needs, isNew, fresh, present′, spot′, above′, below′, least′, size′, link′, empty, base, holds, entered, ended, body, grown}
 use Rattle.frame.specs.Soft.{cand-in}

@@ -14,7 +14,8 @@ use Rattle.image.specs.Saves.{withData}
 use Rattle.volume.specs.Words.{lastBlockAt, lastAddressAt}
 use Rattle.volume.specs.Keys.{home, number, up, slot, child}
 use Rattle.volume.specs.KeyLaws.{child-slot, slot-low, slot-fib, up-most}
-use Rattle.volume.specs.Files.{Partition, isLda, spot, entry}
+use Rattle.volume.specs.Files.{isLda, spot, entry}
+use Rattle.volume.specs.declared.Partition.{Partition}
 use Rattle.volume.specs.Index.{spot-home}
 use Rattle.volume.specs.Plans.{freeAt}
 use Rattle.volume.specs.Writes.{put2If, over, counted, needs, newly, isNew, fresh, spot′, above′, below′, least′, size′, link′, empty, base, holds, entered, ended, body, grown}

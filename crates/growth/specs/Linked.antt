@@ -13,7 +13,8 @@ use Rattle.image.specs.View.{View, Rec, pair}
 use Rattle.volume.specs.Words.{nextAt, previousAt, slotAt}
 use Rattle.volume.specs.Keys.{home, up, child, first}
 use Rattle.volume.specs.KeyLaws.{child-of, child-word, low-pos, up-home}
-use Rattle.volume.specs.Files.{Partition, len, spot, present, entry, wellFormed, above, below, link}
+use Rattle.volume.specs.Files.{len, spot, present, entry, wellFormed, above, below, link}
+use Rattle.volume.specs.declared.Partition.{Partition}
 use Rattle.volume.specs.Index.{present-low, present-high, wf-of}
 use Rattle.volume.specs.Order.{above-is, below-is}
 use Rattle.volume.specs.Writes.{isNew, fresh, present′, spot′, above′, below′, link′, grown}
@@ -69,7 +70,7 @@ module _ (π : Partition) (v : View) (f r : ℕ) (dat : Rec) (ok : Ready π v f 
             ∙ link-old (below π v f k) (λ n. below-is π v f (ok .formed) k (present-low π v f k (a .old)) .hit n .0)
             ∙ ap (link′ π v f r) (sym (a .under-it))
 
-    tail-is : (k i : ℕ) → k < home → present π W f k ≡ true → i < 128 → len π W f ≤ first (child k (slotAt i)) → pair W (spot π W f k) (slotAt i) ≡ 0
+    tail-is : (k i : ℕ) → k < home → present π W f k ≡ true → i < 128 → len W f ≤ first (child k (slotAt i)) → pair W (spot π W f k) (slotAt i) ≡ 0
     tail-is k i l p m h =
         ap₂ (λ (b x : ℕ). pair W b x) (written-spot π v f r ok tails W w k (there k p) ∙ ap (spot′ π v f r) (sym (a .0))) (sym (child-word k i l m))
         ∙ w .entries (child k (slotAt i)) n (a .1 .0) (a .1 .1) held
@@ -77,7 +78,7 @@ module _ (π : Partition) (v : View) (f r : ℕ) (dat : Rec) (ok : Ready π v f 
         ∙ go (isNew π v f r (up (child k (slotAt i)))) refl
       where
         a : (up (child k (slotAt i)) ≡ k) × ((0 < child k (slotAt i)) × (child k (slotAt i) < 37220))
-        a = child-of k (slotAt i) (omega (arith, present-low π W f k p, low-pos (len π W f) (wf-of π W f wf .short))) l (omega arith) (omega arith)
+        a = child-of k (slotAt i) (omega (arith, present-low π W f k p, low-pos (len W f) (wf-of π W f wf .short))) l (omega arith) (omega arith)
 
         n : child k (slotAt i) ≢ home
         n z = omega (arith, sym (a .0) ∙ ap up z, up-home)

@@ -10,7 +10,8 @@ use Rattle.image.specs.View.{View}
 use Rattle.volume.specs.Search.{seek, down, Least, Greatest, seek-least, down-greatest}
 use Rattle.volume.specs.Keys.{home, low, span}
 use Rattle.volume.specs.KeyLaws.{low-pos, span-end, first-pointer}
-use Rattle.volume.specs.Files.{Partition, len, present, above, below, least}
+use Rattle.volume.specs.Files.{len, present, above, below, least}
+use Rattle.volume.specs.declared.Partition.{Partition}
 use Rattle.volume.specs.Index.{present-low, present-high, present-pos, wf-of}
 use Rattle.volume.specs.Order.{Next, Prev, next-one, prev-one, above-is, below-is, least-is, least-present}
 use Rattle.volume.specs.Writes.{over, needs, isNew, present′, above′, below′, least′}
@@ -130,14 +131,14 @@ module _ (π : Partition) (v : View) (f r : ℕ) (ok : Ready π v f r) where
 
   -- ---- the neighbours
 
-  end-there : present π v f (home + len π v f) ≡ true
+  end-there : present π v f (home + len v f) ≡ true
   end-there = wf-of π v f (ok .formed) .ends
 
   low-there : (least π v f ≢ 0) × (present π v f (least π v f) ≡ true)
   low-there = least-present π v f (ok .formed)
 
   -- every other block keeps its neighbours
-  pub above-kept : (k : ℕ) → present π v f k ≡ true → k ≢ home + len π v f → above′ π v f r k ≡ above π v f k
+  pub above-kept : (k : ℕ) → present π v f k ≡ true → k ≢ home + len v f → above′ π v f r k ≡ above π v f k
   above-kept k p ne = next-one P k _ (above π v f k) (above′-is k) (record {
     hit = λ n. (present-old π v f r _ (a .hit n .0), a .hit n .1);
     none = λ i l m. absent′ i (a .none i l m) (λ y. omega (arith, m some, last-new (above π v f k) (a .hit some .0))) (λ n y. omega (arith, first-old n k p));

@@ -11,7 +11,8 @@ use Rattle.base.specs.Laws.{both-left, both-right, both-of}
 use Rattle.image.specs.View.{View}
 use Rattle.volume.specs.Keys.{home, up, first, reach}
 use Rattle.volume.specs.KeyLaws.{level, up-level, level-few, level-zero, up-most, up-pos, first-up, first-data, row-direct, row-data, near-keys}
-use Rattle.volume.specs.Files.{Partition, inside, present, owned}
+use Rattle.volume.specs.Files.{inside, present, owned}
+use Rattle.volume.specs.declared.Partition.{Partition}
 use Rattle.volume.specs.Index.{present-home, here-of}
 use Rattle.volume.specs.Plans.{freeAt}
 use Rattle.volume.specs.Writes.{over, needs, newly, isNew, fresh, present′}

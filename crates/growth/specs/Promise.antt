@@ -14,7 +14,8 @@ use Rattle.image.specs.View.{View, Rec, after, places}
 use Rattle.image.specs.Stores.{Fits}
 use Rattle.volume.specs.Words.{kindAt}
 use Rattle.volume.specs.Keys.{home, reach}
-use Rattle.volume.specs.Files.{Partition, inside, candidate, isFile, len, spot, present, free, sound}
+use Rattle.volume.specs.Files.{inside, candidate, isFile, len, spot, present, free, sound}
+use Rattle.volume.specs.declared.Partition.{Partition}
 use Rattle.volume.specs.Plans.{stores, freeAt, newFirst, pibLess, takenStores}
 use Rattle.volume.specs.Writes.{over, needs, present′, spot′, early, grown, store, writePlan}
 use Rattle.frame.specs.Turn.{Each, each-append}
@@ -37,14 +38,14 @@ use Rattle.growth.specs.Fits.{record-fits}
 pub record Writing (π : Partition) (v : View) (f r : ℕ) : Type 0 where
   pub ok : sound π v ≡ true
   pub cf : candidate π v f ≡ true
-  pub next : r ≡ len π v f
+  pub next : r ≡ len v f
   pub far : r < reach
   pub enough : needs π v f r < length (free π v)
 
 -- what a write of dat into block r of f did, from the view v to X
 pub record Grew (π : Partition) (v : View) (f r : ℕ) (dat : Rec) (X : View) : Type 0 where
   pub file : isFile π X f ≡ true
-  pub length : len π X f ≡ suc r
+  pub length : len X f ≡ suc r
   pub there : (k : ℕ) → present π X f k ≡ present′ π v f r k
   pub where-is : (k : ℕ) → present′ π v f r k ≡ true → spot π X f k ≡ spot′ π v f r k
   pub wrote : (w : ℕ) → 8 ≤ w → X (spot′ π v f r (over r 0)) w ≡ dat (w - 8)

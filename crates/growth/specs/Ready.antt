@@ -11,7 +11,8 @@ use borrow.Author.Tests.{eqb-true, eqb-false}
 use Rattle.image.specs.View.{View, pair}
 use Rattle.volume.specs.Keys.{home, reach, up, slot, child, first}
 use Rattle.volume.specs.KeyLaws.{child-slot, slot-even, slot-high, up-most}
-use Rattle.volume.specs.Files.{Partition, inside, candidate, len, spot, present, entry, wellFormed, owned, free, sound}
+use Rattle.volume.specs.Files.{inside, candidate, len, spot, present, entry, wellFormed, owned, free, sound}
+use Rattle.volume.specs.declared.Partition.{Partition}
 use Rattle.volume.specs.Index.{WF, wf-of, entry-at, entry-fib}
 use Rattle.volume.specs.Plans.{freeAt}
 use Rattle.volume.specs.Writes.{needs}
@@ -22,7 +23,7 @@ use Rattle.frame.specs.Taking.{taken, differ}
 module _ (π : Partition) (v : View) (f : ℕ) where
   -- entries that L does not ask for are nil, in the FIB and in pointer blocks
   abbrev pub Tails : Type 0
-  Tails = (k : ℕ) → k ≢ home → 0 < k → k < 37220 → present π v f (up k) ≡ true → len π v f ≤ first k → entry π v f k ≡ 0
+  Tails = (k : ℕ) → k ≢ home → 0 < k → k < 37220 → present π v f (up k) ≡ true → len v f ≤ first k → entry π v f k ≡ 0
 
   tails-of : WF π v f → Links π v f → Tails
   tails-of w h k n a b p l = go (eqb (up k) home) refl
@@ -34,13 +35,13 @@ module _ (π : Partition) (v : View) (f : ℕ) where
           let e = slot-even k m in
           let c = ap (child (up k)) (sym e ∙ sym (add-zero (slot k))) ∙ child-slot k 0 a b n (omega arith) in
           entry-at π v f k ∙ ap (pair v (spot π v f (up k))) e
-          ∙ h .tail (up k) ((slot k - 8) / 2) m p (omega (arith, slot-high k)) (subst (λ (j : ℕ). len π v f ≤ first j) (sym c) l)
+          ∙ h .tail (up k) ((slot k - 8) / 2) m p (omega (arith, slot-high k)) (subst (λ (j : ℕ). len v f ≤ first j) (sym c) l)
 
   -- a file, block r behind its last, and room: the first free blocks are unowned, and each another
   pub record Ready (r : ℕ) : Type 0 where
     pub cand : candidate π v f ≡ true
     pub formed : wellFormed π v f ≡ true
-    pub next : r ≡ len π v f
+    pub next : r ≡ len v f
     pub far : r < reach
     pub room : (i : ℕ) → i ≤ needs π v f r → (inside π (freeAt π v i) ≡ true) × (owned π v (freeAt π v i) ≡ false)
     pub apart : (i j : ℕ) → i < j → j ≤ needs π v f r → freeAt π v i ≢ freeAt π v j
@@ -49,7 +50,7 @@ module _ (π : Partition) (v : View) (f : ℕ) where
     pub sound-tails : Tails
     sound-tails = tails-of (wf-of π v f (sound-clean π v so f c)) (links-of π v f (sound-linked π v so f c))
 
-    pub ready : (r : ℕ) → r ≡ len π v f → r < reach → needs π v f r < length (free π v) → Ready r
+    pub ready : (r : ℕ) → r ≡ len v f → r < reach → needs π v f r < length (free π v) → Ready r
     ready r q l m = record {
       cand = c;
       formed = sound-clean π v so f c;

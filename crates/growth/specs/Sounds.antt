@@ -10,7 +10,8 @@ use lib.ListN.{length}
 use borrow.Author.Tests.{ltb-true, eqb-true, eqb-false}
 use Rattle.base.specs.Laws.{both-left}
 use Rattle.image.specs.View.{View, Rec}
-use Rattle.volume.specs.Files.{Partition, inside, candidate, wellFormed, spot, present, fileOf, key, owned, free, sound}
+use Rattle.volume.specs.Files.{inside, candidate, wellFormed, spot, present, fileOf, key, owned, free, sound}
+use Rattle.volume.specs.declared.Partition.{Partition}
 use Rattle.volume.specs.Index.{spot-home, present-home, own, file-candidate, member-owned, file-back, owned-in}
 use Rattle.volume.specs.Frame.{SameHead, Clean, kept-present, kept-spot}
 use Rattle.volume.specs.Plans.{freeAt}
@@ -73,10 +74,10 @@ module _ (π : Partition) (v : View) (f r : ℕ) (dat : Rec) (ok : Ready π v f 
       go true q =
           let o = own π v b h in
           let z = eqb-true (fileOf π v b) f q in
-          let p = subst (λ (x : ℕ). present π v x (key π v b) ≡ true) z (o .here) in
-          let p′ = present-old π v f r (key π v b) p in
-          subst (λ (x : ℕ). owned π W x ≡ true) (where-is _ p′ ∙ spot-is π v f r ok _ p ∙ ap (λ (x : ℕ). spot π v x (key π v b)) (sym z) ∙ o .back)
-          (member-owned π W f still-candidate wf (key π v b) (there _ ∙ p′))
+          let p = subst (λ (x : ℕ). present π v x (key v b) ≡ true) z (o .here) in
+          let p′ = present-old π v f r (key v b) p in
+          subst (λ (x : ℕ). owned π W x ≡ true) (where-is _ p′ ∙ spot-is π v f r ok _ p ∙ ap (λ (x : ℕ). spot π v x (key v b)) (sym z) ∙ o .back)
+          (member-owned π W f still-candidate wf (key v b) (there _ ∙ p′))
       go false q =
           let o = own π v b h in
           let n = eqb-false (fileOf π v b) f q in
@@ -84,7 +85,7 @@ module _ (π : Partition) (v : View) (f r : ℕ) (dat : Rec) (ok : Ready π v f 
           let s = turn .others _ n cg .shape in
           let cw = sym (turn .cands _ n) ∙ cg in
           subst (λ (x : ℕ). owned π W x ≡ true) (sym (kept-spot π v W _ s _ (o .here)) ∙ o .back)
-          (member-owned π W _ cw (clean _ cw) (key π v b) (sym (kept-present π v W _ s _) ∙ o .here))
+          (member-owned π W _ cw (clean _ cw) (key v b) (sym (kept-present π v W _ s _) ∙ o .here))
 
   owned-new : (k : ℕ) → isNew π v f r k ≡ true → owned π W (fresh π v f r k) ≡ true
   owned-new k h =
@@ -95,20 +96,20 @@ module _ (π : Partition) (v : View) (f r : ℕ) (dat : Rec) (ok : Ready π v f 
   owned-back b h = go (eqb (fileOf π W b) f) refl
     where
       go : (t : Bool) → eqb (fileOf π W b) f ≡ t → (owned π v b ≡ true) ⊎ Taken π v so (needs π v f r) room b
-      go true q = on (present-split π v f r (key π W b) p′)
+      go true q = on (present-split π v f r (key W b) p′)
         where
           z : fileOf π W b ≡ f
           z = eqb-true (fileOf π W b) f q
 
-          p′ : present′ π v f r (key π W b) ≡ true
-          p′ = sym (there _) ∙ subst (λ (x : ℕ). present π W x (key π W b) ≡ true) z (own π W b h .here)
+          p′ : present′ π v f r (key W b) ≡ true
+          p′ = sym (there _) ∙ subst (λ (x : ℕ). present π W x (key W b) ≡ true) z (own π W b h .here)
 
-          is : spot′ π v f r (key π W b) ≡ b
-          is = sym (where-is _ p′) ∙ ap (λ (x : ℕ). spot π W x (key π W b)) (sym z) ∙ own π W b h .back
+          is : spot′ π v f r (key W b) ≡ b
+          is = sym (where-is _ p′) ∙ ap (λ (x : ℕ). spot π W x (key W b)) (sym z) ∙ own π W b h .back
 
-          on : (isNew π v f r (key π W b) ≡ true) ⊎ (present π v f (key π W b) ≡ true) → (owned π v b ≡ true) ⊎ Taken π v so (needs π v f r) room b
+          on : (isNew π v f r (key W b) ≡ true) ⊎ (present π v f (key W b) ≡ true) → (owned π v b ≡ true) ⊎ Taken π v so (needs π v f r) room b
           on (inl n) =
-              let x = placed π v f r ok (key π W b) n in
+              let x = placed π v f r ok (key W b) n in
               inr (record { i = x .i; less = x .less; is = sym is ∙ spot-new π v f r _ n ∙ ap (fresh π v f r) (x .is) ∙ fresh-at π v f r ok (x .i) (x .less) })
           on (inr n) = inl (subst (λ (x : ℕ). owned π v x ≡ true) (sym (spot-is π v f r ok _ n) ∙ is) (old-owned π v f r ok _ n))
       go false q =
@@ -116,8 +117,8 @@ module _ (π : Partition) (v : View) (f r : ℕ) (dat : Rec) (ok : Ready π v f 
           let n = eqb-false (fileOf π W b) f q in
           let cg = turn .cands _ n ∙ file-candidate π W _ (o .file) in
           let s = turn .others _ n cg .shape in
-          let p = kept-present π v W _ s (key π W b) ∙ o .here in
-          inl (subst (λ (x : ℕ). owned π v x ≡ true) (kept-spot π v W _ s _ p ∙ o .back) (member-owned π v _ cg (c _ cg) (key π W b) p))
+          let p = kept-present π v W _ s (key W b) ∙ o .here in
+          inl (subst (λ (x : ℕ). owned π v x ≡ true) (kept-spot π v W _ s _ p ∙ o .back) (member-owned π v _ cg (c _ cg) (key W b) p))
 
   -- ---- the free chain afterwards
 

@@ -16,7 +16,8 @@ use Rattle.volume.specs.Words.{serialAt, relativeAt, lastAddressAt, inUseAt, lo
 use Rattle.volume.specs.Search.{seek, down, seek-same, down-same, count-same}
 use Rattle.volume.specs.Keys.{home, number, reach, up, slot, first, low, span}
 use Rattle.volume.specs.KeyLaws.{key-ind, low-pos, asked-low, asked-high, fib-keys}
-use Rattle.volume.specs.Files.{Partition, isLda, len, spot, present, entry, wellFormed, above, below, least, size, tally}
+use Rattle.volume.specs.Files.{isLda, len, spot, present, entry, wellFormed, above, below, least, size, tally}
+use Rattle.volume.specs.declared.Partition.{Partition}
 use Rattle.volume.specs.Index.{Here, here-of, of-here, spot-home, present-home, spot-step, entry-fib, Member, WF, wf-of, of-wf, member}
 use Rattle.volume.specs.Frame.{SameHead, same-serial}
 use Rattle.volume.specs.Plans.{freeAt}
@@ -34,7 +35,7 @@ module _ (π : Partition) (v : View) (f r : ℕ) where
     pub new : (k : ℕ) → isNew π v f r k ≡ true → (pair W (fresh π v f r k) serialAt ≡ pda (π .drive) f) × (W (fresh π v f r k) relativeAt ≡ number k)
     pub entries : (k : ℕ) → k ≢ home → 0 < k → k < 37220 → present′ π v f r (up k) ≡ true
         → pair W (spot′ π v f r (up k)) (slot k) ≡ pick (isNew π v f r k) (lda (π .drive) (fresh π v f r k)) (pick (isNew π v f r (up k)) 0 (entry π v f k))
-    pub length : len π W f ≡ suc r
+    pub length : len W f ≡ suc r
     pub last : pair W f lastAddressAt ≡ lda (π .drive) (freeAt π v 0)
     pub used : W f inUseAt ≡ size′ π v f r
     pub lowest : W f lowNumberAt ≡ number (least′ π v f r)
@@ -104,12 +105,12 @@ module _ (π : Partition) (v : View) (f r : ℕ) where
             go : (t : Bool) → isNew π v f r k ≡ t → (s : Bool) → isNew π v f r (up k) ≡ s → present′ π v f r k ≡ true
             go true q s m = present-new π v f r k q
             go false q true m = absurd (h .said (entry-asked k n (ih .at) l u ∙ ap₂ (Entry k n (ih .at)) q m))
-            go false q false m = present-old π v f r k (of-here π v f k n (record { asked = near (ltb (first k) (len π v f)) refl; held = sym (present-not π v f r (up k) m) ∙ u; said = λ z. h .said (same ∙ z) }))
+            go false q false m = present-old π v f r k (of-here π v f k n (record { asked = near (ltb (first k) (len v f)) refl; held = sym (present-not π v f r (up k) m) ∙ u; said = λ z. h .said (same ∙ z) }))
               where
                 same : entry π W f k ≡ entry π v f k
                 same = entry-asked k n (ih .at) l u ∙ ap₂ (Entry k n (ih .at)) q m
 
-                near : (t : Bool) → ltb (first k) (len π v f) ≡ t → first k < len π v f
+                near : (t : Bool) → ltb (first k) (len v f) ≡ t → first k < len v f
                 near true z = ltb-true _ _ z
                 near false z = absurd (h .said (same ∙ tails k n (valid k l .0) (valid k l .1) (sym (present-not π v f r (up k) m) ∙ u) (ltb-false _ _ z)))
 
@@ -161,7 +162,7 @@ module _ (π : Partition) (v : View) (f r : ℕ) where
         let m = member π v f (ok .cand) (ok .formed) k q in
         subst (λ (b : ℕ). Member π W f b k) (sym (spot-kept k q)) (record { ins = m .ins; ser = sym (same-serial (w .old k q)) ∙ m .ser; num = sym (w .old k q .rel) ∙ m .num })
 
-    nil : (k : ℕ) → k ≢ home → up k ≡ home → len π W f ≤ first k → pair W f (slot k) ≡ 0
+    nil : (k : ℕ) → k ≢ home → up k ≡ home → len W f ≤ first k → pair W f (slot k) ≡ 0
     nil k n q l = sym (at-home W) ∙ entry-is k n (written-spot (up k)) (omega (arith, b .0)) (omega (arith, b .1)) up-home
         ∙ ap₂ (Entry k n (written-spot (up k))) not-new (ap (isNew π v f r) q ∙ home-old π v f r ok)
         ∙ at-home v ∙ wf .nil k n q (omega (arith, len-more π v f r ok, w .length))
@@ -183,16 +184,16 @@ module _ (π : Partition) (v : View) (f r : ℕ) where
             go false z = refl
 
     -- the last block is block r
-    end-is : home + len π W f ≡ over r 0
+    end-is : home + len W f ≡ over r 0
     end-is = omega (arith, w .length, over-zero r)
 
     first-new : isNew π v f r (over r 0) ≡ true
     first-new = new-at π v f r ok 0 (needs-some π v f r ok)
 
-    ends : present π W f (home + len π W f) ≡ true
+    ends : present π W f (home + len W f) ≡ true
     ends = ap (present π W f) end-is ∙ written-present _ ∙ present-new π v f r _ first-new
 
-    last : isLda (π .drive) (pair W f lastAddressAt) (spot π W f (home + len π W f)) ≡ true
+    last : isLda (π .drive) (pair W f lastAddressAt) (spot π W f (home + len W f)) ≡ true
     last =
         ap₂ (isLda (π .drive)) (w .last) (ap (spot π W f) end-is ∙ spot-fresh (over r 0) first-new ∙ fresh-at π v f r ok 0 (needs-some π v f r ok))
         ∙ lda-self π (freeAt π v 0)
@@ -212,7 +213,7 @@ module _ (π : Partition) (v : View) (f r : ℕ) where
 
     pub written-size : size π W f ≡ size′ π v f r
     unfolding size size′
-    written-size = count-same _ _ _ (λ i. written-present (low (len π W f) + i)) ∙ ap (λ (n : ℕ). count (span n) (λ i. present′ π v f r (low n + i))) (w .length)
+    written-size = count-same _ _ _ (λ i. written-present (low (len W f) + i)) ∙ ap (λ (n : ℕ). count (span n) (λ i. present′ π v f r (low n + i))) (w .length)
 
     -- blocks in use, last negative number and its address
     tallied : tally π W f ≡ true

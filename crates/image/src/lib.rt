@@ -4,8 +4,10 @@ ghost use mathlib.Core.Bool.{true, false};
 ghost use mathlib.Core.List.{_++_, []};
 ghost use Prim.Native.Nat.{_+_, _*_, _-_, _<_, _≤_};
 ghost use lib.ListN.{length, drop};
+ghost use mir.Syntax.{w16};
+ghost use mir.Val.{SFits};
 ghost use Rattle.image.specs.View.{pair, put, put2, blank};
-ghost use Rattle.image.specs.Signed.{signed};
+ghost use Rattle.image.specs.Signed.{signed, wordOf};
 ghost use Rattle.image.specs.Image.{view, recOf};
 ghost use Rattle.image.specs.Stores.{bytesOf, over};
 ghost use Rattle.image.specs.Saves.{when, saves, words, withData, withText, Applied, Made, seven, Within};
@@ -54,6 +56,18 @@ pub fn signed_word(img: &[u8], b: usize, w: usize) -> i32
     signed(word(img, b, w))
 }
 
+// The word that a signed number is.
+pub fn word_of(n: i32) -> usize
+    requires { ⌜ SFits w16 n ⌝ }
+    ensures { λ r. ⌜ (r ≡ wordOf n) × (r < 65536) ⌝ }
+{
+    if n < 0 {
+        (n + 65536) as usize
+    } else {
+        n as usize
+    }
+}
+
 // Record b, copied out.
 pub fn record(img: &[u8], b: usize) -> [u8; 528]
     requires { ⌜ 528 * b + 528 ≤ length (now img) ⌝ }
@@ -83,6 +97,14 @@ pub fn with_word(r: [u8; 528], w: usize, v: usize) -> [u8; 528]
     x[i] = (v % 256) as u8;
     x[i + 1] = (v / 256) as u8;
     x
+}
+
+// A record with the signed number n as its word w.
+pub fn with_signed(r: [u8; 528], w: usize, n: i32) -> [u8; 528]
+    requires { ⌜ (w < 264) × (SFits w16 n) ⌝ }
+    ensures { λ x. ⌜ recOf x ≡ put w (wordOf n) (recOf r) ⌝ }
+{
+    with_word(r, w, word_of(n))
 }
 
 // A record with v as its words w and w + 1.

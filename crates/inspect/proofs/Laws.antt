@@ -15,7 +15,8 @@ use Rattle.image.specs.Image.{view}
 use Rattle.volume.specs.Words.{dataOffset, relativeAt, slotAt, directAt, indirectAt}
 use Rattle.volume.specs.Keys.{home, reach, number, up, first, low}
 use Rattle.volume.specs.KeyLaws.{first-data, first-pointer, asked-closed, row-ptr, row-direct, row-data}
-use Rattle.volume.specs.Files.{Partition, partitionOf, inside, isLda, serial, candidate, wellFormed, named, len, entry, spot, present, name, above, below, least}
+use Rattle.volume.specs.Files.{partitionOf, inside, isLda, serial, candidate, wellFormed, named, len, entry, spot, present, name, above, below, least}
+use Rattle.volume.specs.declared.Partition.{Partition}
 use Rattle.volume.specs.Index.{wf-of, here-of, spot-home, spot-step, entry-at, entry-fib, present-high, present-low}
 use Rattle.volume.specs.Order.{above-is, below-is, least-present}
 use Rattle.volume.specs.Closed.{spot-direct, spot-data}
@@ -30,31 +31,31 @@ use Rattle.inspect.specs.Parts.{Opened, Readable}
 -- ---- an entry, by what it names
 
 module _ (π : Partition) (v : View) (f : ℕ) where
-  named-is : (k : ℕ) → k ≢ home → named π v f k ≡ names π v f (entry π v f k) (number k)
+  named-is : (k : ℕ) → k ≢ home → named π v f k ≡ names π v (pda (π .drive) f) (entry π v f k) (number k)
   unfolding named names
   named-is k n =
-      ap (λ (b : ℕ). every (isLda (π .drive) (entry π v f k) b ∷ inside π b ∷ eqb (serial π v b) (pda (π .drive) f) ∷ eqb (v b relativeAt) (number k) ∷ []))
+      ap (λ (b : ℕ). every (isLda (π .drive) (entry π v f k) b ∷ inside π b ∷ eqb (serial v b) (pda (π .drive) f) ∷ eqb (v b relativeAt) (number k) ∷ []))
       (spot-step π v f k n)
 
   -- pointer block i; block r below 64; entry j of pointer block i
-  pub named-ptr : (i : ℕ) → i < 32 → named π v f (288 - i) ≡ names π v f (pair v f (indirectAt i)) (number (288 - i))
+  pub named-ptr : (i : ℕ) → i < 32 → named π v f (288 - i) ≡ names π v (pda (π .drive) f) (pair v f (indirectAt i)) (number (288 - i))
   named-ptr i l =
       let w = row-ptr i l in
-      named-is (288 - i) (λ z. omega arith) ∙ ap (λ (x : ℕ). names π v f x (number (288 - i))) (entry-fib π v f (288 - i) (w .0) ∙ ap (pair v f) (w .1))
+      named-is (288 - i) (λ z. omega arith) ∙ ap (λ (x : ℕ). names π v (pda (π .drive) f) x (number (288 - i))) (entry-fib π v f (288 - i) (w .0) ∙ ap (pair v f) (w .1))
 
-  pub named-direct : (r : ℕ) → r < 64 → named π v f (292 + r) ≡ names π v f (pair v f (directAt r)) (number (292 + r))
+  pub named-direct : (r : ℕ) → r < 64 → named π v f (292 + r) ≡ names π v (pda (π .drive) f) (pair v f (directAt r)) (number (292 + r))
   named-direct r l =
       let w = row-direct r l in
-      named-is (292 + r) (λ z. omega arith) ∙ ap (λ (x : ℕ). names π v f x (number (292 + r))) (entry-fib π v f (292 + r) (w .0) ∙ ap (pair v f) (w .1))
+      named-is (292 + r) (λ z. omega arith) ∙ ap (λ (x : ℕ). names π v (pda (π .drive) f) x (number (292 + r))) (entry-fib π v f (292 + r) (w .0) ∙ ap (pair v f) (w .1))
 
-  pub named-entry : (i j : ℕ) → j < 128 → named π v f (292 + (64 + 128 * i + j)) ≡ names π v f (pair v (spot π v f (288 - i)) (slotAt j)) (number (356 + 128 * i + j))
+  pub named-entry : (i j : ℕ) → j < 128 → named π v f (292 + (64 + 128 * i + j)) ≡ names π v (pda (π .drive) f) (pair v (spot π v f (288 - i)) (slotAt j)) (number (356 + 128 * i + j))
   named-entry i j l =
       let r = 64 + 128 * i + j in
       let w = row-data r (omega arith) in
       let a : 288 - (r - 64) / 128 ≡ 288 - i = omega arith in
       let b : 8 + 2 * ((r - 64) % 128) ≡ 8 + 2 * j = omega arith in
       named-is (292 + r) (λ z. omega arith)
-      ∙ ap₂ (names π v f) (entry-at π v f (292 + r) ∙ ap₂ (λ (k x : ℕ). pair v (spot π v f k) x) (w .0 ∙ a) (w .1 ∙ b)) (ap number (let c : 292 + r ≡ 356 + 128 * i + j = omega arith in c))
+      ∙ ap₂ (names π v (pda (π .drive) f)) (entry-at π v f (292 + r) ∙ ap₂ (λ (k x : ℕ). pair v (spot π v f k) x) (w .0 ∙ a) (w .1 ∙ b)) (ap number (let c : 292 + r ≡ 356 + 128 * i + j = omega arith in c))
 
   -- the block of a key, by the entry that code reads
   pub spot-far : (k : ℕ) → 355 < k → spot π v f k ≡ ldaBlock (π .drive) (pair v (spot π v f (288 - (k - 356) / 128)) (slotAt ((k - 356) % 128)))
@@ -95,12 +96,12 @@ module _ {π : Partition} {l : List ℕ} {f : ℕ} (o : Readable π l f) where
   read-most k p = omega (arith, present-high π (view l) f k p, o .short)
 
   pub read-pointer : (k : ℕ) → present π (view l) f k ≡ true → k < home → (257 ≤ k) × (k ≤ 288)
-  read-pointer k p m = at (asked-closed (len π (view l) f) k (o .short) a)
+  read-pointer k p m = at (asked-closed (len (view l) f) k (o .short) a)
     where
-      a : first k < len π (view l) f
+      a : first k < len (view l) f
       a = here-of π (view l) f k (λ z. omega arith) p .asked
 
-      at : ((low (len π (view l) f) ≤ k) × (k < 289)) ⊎ ((home ≤ k) × (k < 292 + len π (view l) f)) → (257 ≤ k) × (k ≤ 288)
+      at : ((low (len (view l) f) ≤ k) × (k < 289)) ⊎ ((home ≤ k) × (k < 292 + len (view l) f)) → (257 ≤ k) × (k ≤ 288)
       at (inl x) = let s = o .short in let h = x .1 in (omega (arith, a, first-pointer k (omega arith)), omega arith)
       at (inr x) = absurd (omega (arith, x .0))
 
@@ -112,24 +113,24 @@ module _ {π : Partition} {l : List ℕ} {f : ℕ} (o : Readable π l f) where
       subst (λ (x : ℕ). spot π (view l) f x ≤ π .e) u (read-in (up k) (here-of π (view l) f k (λ z. omega arith) p .held))
 
   -- the last and the first of the links
-  pub read-last : (n : ℕ) → n ≡ len π (view l) f → present π (view l) f (home + n) ≡ true
+  pub read-last : (n : ℕ) → n ≡ len (view l) f → present π (view l) f (home + n) ≡ true
   read-last n q = rw q (ends π (view l) f (o .short) (o .good))
 
-  pub read-low : (n k : ℕ) → n ≡ len π (view l) f → k ≡ low n → present π (view l) f k ≡ true
+  pub read-low : (n k : ℕ) → n ≡ len (view l) f → k ≡ low n → present π (view l) f k ≡ true
   read-low n k q r = rw (r, q) (low-here π (view l) f (o .short) (o .good))
 
 -- ---- an open file
 
 -- a well formed file of a good partition is open
-pub wf-opened : {d : ℕ} {l : List ℕ} {s e : ℕ} (f : ℕ) → Lies d l s e → f ≤ e → wellFormed (partitionOf d s e) (view l) f ≡ true → Opened (partitionOf d s e) l f
+pub wf-opened : {π : Partition} {l : List ℕ} (f : ℕ) → Lies π l → f ≤ π .e → wellFormed π (view l) f ≡ true → Opened π l f
 wf-opened f i h w = record { lies = i; here = h; formed = w }
 
 module _ {π : Partition} {l : List ℕ} {f : ℕ} (o : Opened π l f) where
-  pub opened-few : len π (view l) f ≤ 4160
+  pub opened-few : len (view l) f ≤ 4160
   opened-few = wf-of π (view l) f (o .formed) .short
 
   -- block r below L + 1 is present
-  pub opened-data : (r : ℕ) → r < len π (view l) f → present π (view l) f (292 + r) ≡ true
+  pub opened-data : (r : ℕ) → r < len (view l) f → present π (view l) f (292 + r) ≡ true
   opened-data r h = wf-of π (view l) f (o .formed) .full (292 + r) (omega (arith, first-data (292 + r) (omega arith)))
 
   -- its index can be read
@@ -150,23 +151,20 @@ module _ {π : Partition} {l : List ℕ} {f : ℕ} (o : Opened π l f) where
   pub opened-least : present π (view l) f (least π (view l) f) ≡ true
   opened-least = least-present π (view l) f (o .formed) .1
 
-  pub opened-last : present π (view l) f (home + len π (view l) f) ≡ true
+  pub opened-last : present π (view l) f (home + len (view l) f) ≡ true
   opened-last = wf-of π (view l) f (o .formed) .ends
 
 -- ---- show
 
 -- the block that is shown lies in the image
-pub shown-at : (d : ℕ) (l : List ℕ) (s e f r at n z : ℕ) → Lies d l s e → showIn (partitionOf d s e) (view l) f r ≡ Done at n z → at + 512 ≤ length l
+pub shown-at : (π : Partition) (l : List ℕ) (f r at n z : ℕ) → Lies π l → showIn π (view l) f r ≡ Done at n z → at + 512 ≤ length l
 unfolding showIn
-shown-at d l s e f r at n z i h = go (candidate π v f) refl (wellFormed π v f) refl (ltb r reach) refl (ltb r (len π v f)) refl
+shown-at π l f r at n z i h = go (candidate π v f) refl (wellFormed π v f) refl (ltb r reach) refl (ltb r (len v f)) refl
   where
-    π : Partition
-    π = partitionOf d s e
-
     v : View
     v = view l
 
-    go : (c : Bool) → candidate π v f ≡ c → (w : Bool) → wellFormed π v f ≡ w → (t : Bool) → ltb r reach ≡ t → (u : Bool) → ltb r (len π v f) ≡ u → at + 512 ≤ length l
+    go : (c : Bool) → candidate π v f ≡ c → (w : Bool) → wellFormed π v f ≡ w → (t : Bool) → ltb r reach ≡ t → (u : Bool) → ltb r (len v f) ≡ u → at + 512 ≤ length l
     go false c w y t m u j = let k = rw (c, showIn) at h in let z : _≡_ {A = ℕ} 0 1 = cc in absurd (omega arith)
     go true c false y t m u j = let k = rw (c, y, showIn) at h in let z : _≡_ {A = ℕ} 0 1 = cc in absurd (omega arith)
     go true c true y false m u j = let k = rw (c, y, m, showIn) at h in let z : _≡_ {A = ℕ} 0 1 = cc in absurd (omega arith)
@@ -184,7 +182,7 @@ shown-in d l s f r at n z h = go (partition d l s) refl
   where
     go : (q : Part) → partition d l s ≡ q → at + 512 ≤ length l
     go (part.Refused y) j = let k = rw (j, shown) at h in let z : _≡_ {A = ℕ} 0 1 = cc in absurd (omega arith)
-    go (part.Good e) j = shown-at d l s e f r at n z (lies d l s e j) (rw (j, shown) at h)
+    go (part.Good e) j = shown-at (partitionOf d s e) l f r at n z (lies d l s e j) (rw (j, shown) at h)
 
 pub length-512 : (a : ℕ) → a + 512 - a ≡ 512
 length-512 a = omega arith

@@ -19,7 +19,8 @@ use Rattle.image.specs.Signed.{signed}
 use Rattle.volume.specs.Words.{lastBlockAt}
 use Rattle.volume.specs.Keys.{home, reach, low}
 use Rattle.volume.specs.KeyLaws.{first-pointer, closed-ptr}
-use Rattle.volume.specs.Files.{Partition, partitionOf, wellFormed, len}
+use Rattle.volume.specs.Files.{partitionOf, wellFormed, len}
+use Rattle.volume.specs.declared.Partition.{Partition}
 use Rattle.volume.specs.Steps.{every-no, and-true}
 use Rattle.volume.specs.Reads.{Lies}
 use Rattle.inspect.specs.Numbers.{lastGood, blocksTo, last-good, blocks-to}
@@ -102,7 +103,7 @@ unfolding every
 every-last a b c d p q r = sym (and-true d) ∙ rw (p, q, r)
 
 module _ (π : Partition) (v : View) (f : ℕ) (z : ℤ) (hz : z ≡ signed (v f lastBlockAt)) (small : v f lastBlockAt < 65536) where
-  last-is : lastGood z ≡ leb (len π v f) reach
+  last-is : lastGood z ≡ leb (len v f) reach
   unfolding len
   last-is = ap lastGood hz ∙ last-good (v f lastBlockAt) small
 
@@ -111,7 +112,7 @@ module _ (π : Partition) (v : View) (f : ℕ) (z : ℤ) (hz : z ≡ signed (v f
   wf-long h = sym (form-closed π v f ∙ every-no _ 0 (sym last-is ∙ h))
 
   module _ (good : lastGood z ≡ true) (n : ℕ) (hn : n ≡ blocksTo z) where
-    len-is : n ≡ len π v f
+    len-is : n ≡ len v f
     unfolding len
     len-is = hn ∙ ap blocksTo hz ∙ blocks-to (v f lastBlockAt) small (ap lastGood (sym hz) ∙ good)
 
@@ -130,9 +131,9 @@ module _ (π : Partition) (v : View) (f : ℕ) (z : ℤ) (hz : z ≡ signed (v f
         ∙ every-last _ _ _ _ (sym last-is ∙ good) (ap (indexGood π v f) (sym len-is) ∙ i) (ap (nilsGood v f) (sym len-is) ∙ j) ∙ sym (form-closed π v f)
 
 -- and then its index can be read
-pub wf-readable : {d : ℕ} {l : List ℕ} {s e : ℕ} (f : ℕ) (z : ℤ) (n : ℕ) → Lies d l s e → f ≤ e → z ≡ signed (view l f lastBlockAt) → view l f lastBlockAt < 65536
-    → lastGood z ≡ true → (n ≡ blocksTo z) × (n ≤ 4160) → indexGood (partitionOf d s e) (view l) f n ≡ true
-    → Readable (partitionOf d s e) l f × (n ≡ len (partitionOf d s e) (view l) f)
-wf-readable {d} {l} {s} {e} f z n i h hz small good hn g =
-    let q = len-is (partitionOf d s e) (view l) f z hz small good n (hn .0) in
+pub wf-readable : {π : Partition} {l : List ℕ} (f : ℕ) (z : ℤ) (n : ℕ) → Lies π l → f ≤ π .e → z ≡ signed (view l f lastBlockAt) → view l f lastBlockAt < 65536
+    → lastGood z ≡ true → (n ≡ blocksTo z) × (n ≤ 4160) → indexGood π (view l) f n ≡ true
+    → Readable π l f × (n ≡ len (view l) f)
+wf-readable {π} {l} f z n i h hz small good hn g =
+    let q = len-is π (view l) f z hz small good n (hn .0) in
     (record { lies = i; here = h; short = rw (← q) (hn .1); good = rw (← q) g }, q)

@@ -16,7 +16,8 @@ use Rattle.volume.specs.Words.{relativeAt, directAt, indirectAt, doubleAt, inUs
 use Rattle.volume.specs.Search.{seek}
 use Rattle.volume.specs.Keys.{home, reach, number, up, slot, first, low, span}
 use Rattle.volume.specs.KeyLaws.{key-ind, first-up, first-data, first-doubles, low-home, low-pos, asked-low, span-end, fib-keys, last-asked, asked-closed, closed-ptr, row-direct, row-ptr, row-double}
-use Rattle.volume.specs.Files.{Partition, inside, isLda, serial, len, spot, present, entry, named, least, size, tally, wellFormed}
+use Rattle.volume.specs.Files.{inside, isLda, serial, len, spot, present, entry, named, least, size, tally, wellFormed}
+use Rattle.volume.specs.declared.Partition.{Partition}
 use Rattle.volume.specs.Index.{WF, Member, wf-of, of-wf, or-at, or-of, here-of, of-here, present-home, present-low, present-high}
 use Rattle.volume.specs.Steps.{every-cons, every-nil}
 use Rattle.volume.specs.Order.{count-window}
@@ -35,13 +36,13 @@ nilsGood v f n =
     ∷ eqb (pair v f (doubleAt + 2)) 0
     ∷ [])
 
-module _ (π : Partition) (v : View) (f : ℕ) where
-  -- the LDA x is that of a block of s+1..e with the serial PDA(f) and the relative number rel
-  unfoldable pub names : ℕ → ℕ → Bool
-  names x rel =
-      let b = ldaBlock (π .drive) x in
-      every (isLda (π .drive) x b ∷ inside π b ∷ eqb (serial π v b) (pda (π .drive) f) ∷ eqb (v b relativeAt) rel ∷ [])
+-- the LDA x is that of a block of s+1..e with the serial `own` and the relative number rel
+unfoldable pub names : Partition → View → ℕ → ℕ → ℕ → Bool
+names π v own x rel =
+    let b = ldaBlock (π .drive) x in
+    every (isLda (π .drive) x b ∷ inside π b ∷ eqb (serial v b) own ∷ eqb (v b relativeAt) rel ∷ [])
 
+module _ (π : Partition) (v : View) (f : ℕ) where
   -- pointer block -(4+j) is named well; block r is
   abbrev pub pointerTest : ℕ → Bool
   pointerTest j = named π v f (288 - j)
@@ -64,7 +65,7 @@ module _ (π : Partition) (v : View) (f : ℕ) where
 
   -- L is within reach, and the index, its unused entries and the numbers are those of L + 1 blocks
   unfoldable pub formGood : Bool
-  formGood = let n = len π v f in every (leb n reach ∷ indexGood n ∷ nilsGood v f n ∷ numbersGood n ∷ [])
+  formGood = let n = len v f in every (leb n reach ∷ indexGood n ∷ nilsGood v f n ∷ numbersGood n ∷ [])
 
 -- ---- the tests, one by one
 
@@ -147,55 +148,55 @@ module _ (π : Partition) (v : View) (f : ℕ) where
       let a : entry π v f k ≡ lda (π .drive) (spot π v f k) = eqb-true _ _ (named-lda k h) in
       omega (arith, lda-pos (π .drive) (spot π v f k))
 
-  module _ (short : len π v f ≤ reach) (good : indexGood π v f (len π v f) ≡ true) where
-    pub asked-named : (k : ℕ) → k ≢ home → first k < len π v f → named π v f k ≡ true
-    asked-named k n l = at (asked-closed (len π v f) k short l)
+  module _ (short : len v f ≤ reach) (good : indexGood π v f (len v f) ≡ true) where
+    pub asked-named : (k : ℕ) → k ≢ home → first k < len v f → named π v f k ≡ true
+    asked-named k n l = at (asked-closed (len v f) k short l)
       where
-        at : ((low (len π v f) ≤ k) × (k < 289)) ⊎ ((home ≤ k) × (k < 292 + len π v f)) → named π v f k ≡ true
-        at (inl x) = index-ptr π v f (len π v f) good k (x .0) (x .1)
-        at (inr x) = index-data π v f (len π v f) good k (omega (arith, x .0)) (omega (arith, x .1))
+        at : ((low (len v f) ≤ k) × (k < 289)) ⊎ ((home ≤ k) × (k < 292 + len v f)) → named π v f k ≡ true
+        at (inl x) = index-ptr π v f (len v f) good k (x .0) (x .1)
+        at (inr x) = index-data π v f (len v f) good k (omega (arith, x .0)) (omega (arith, x .1))
 
     -- every key that L asks for is present, and no other but the FIB's
-    asked-present : (k : ℕ) → first k < len π v f → present π v f k ≡ true
-    asked-present = key-ind (λ k. first k < len π v f → present π v f k ≡ true) (λ l. present-home π v f)
+    asked-present : (k : ℕ) → first k < len v f → present π v f k ≡ true
+    asked-present = key-ind (λ k. first k < len v f → present π v f k ≡ true) (λ l. present-home π v f)
         (λ k n ih l. of-here π v f k n (record { asked = l; held = ih (omega (arith, first-up k n)); said = named-said k (asked-named k n l) }))
 
-    has-key : (k : ℕ) → present π v f k ≡ hasKey (len π v f) k
+    has-key : (k : ℕ) → present π v f k ≡ hasKey (len v f) k
     has-key k = iff-eq _ _ (λ h. or-of (eqb k home) _ (λ q. lt-ltb _ _ (here-of π v f k (eqb-false k home q) h .asked))) (λ h. go (eqb k home) refl h)
       where
-        go : (t : Bool) → eqb k home ≡ t → (t || ltb (first k) (len π v f)) ≡ true → present π v f k ≡ true
+        go : (t : Bool) → eqb k home ≡ t → (t || ltb (first k) (len v f)) ≡ true → present π v f k ≡ true
         go true q h = ap (present π v f) (eqb-true k home q) ∙ present-home π v f
         go false q h = asked-present k (ltb-true _ _ h)
 
-    pub low-here : present π v f (low (len π v f)) ≡ true
-    low-here = first-key (len π v f) short (present π v f) has-key .hit (λ z. omega (arith, low-pos (len π v f) short)) .0
+    pub low-here : present π v f (low (len v f)) ≡ true
+    low-here = first-key (len v f) short (present π v f) has-key .hit (λ z. omega (arith, low-pos (len v f) short)) .0
 
-    found-least : least π v f ≡ low (len π v f)
+    found-least : least π v f ≡ low (len v f)
     unfolding least
-    found-least = seek-here (span (len π v f)) (low (len π v f)) (present π v f) (omega (arith, span-end (len π v f), low-home (len π v f))) low-here
+    found-least = seek-here (span (len v f)) (low (len v f)) (present π v f) (omega (arith, span-end (len v f), low-home (len v f))) low-here
 
-    found-size : size π v f ≡ sizeOf (len π v f)
+    found-size : size π v f ≡ sizeOf (len v f)
     unfolding size
     found-size =
-        count-window (present π v f) (low (len π v f)) (span (len π v f)) (292 + len π v f)
-        (λ i p. (present-low π v f i p, omega (arith, present-high π v f i p, span-end (len π v f)))) (omega (arith, span-end (len π v f)))
-        ∙ count-keys (len π v f) short (present π v f) has-key
+        count-window (present π v f) (low (len v f)) (span (len v f)) (292 + len v f)
+        (λ i p. (present-low π v f i p, omega (arith, present-high π v f i p, span-end (len v f)))) (omega (arith, span-end (len v f)))
+        ∙ count-keys (len v f) short (present π v f) has-key
 
-    pub ends : present π v f (home + len π v f) ≡ true
-    ends = go (ltb 0 (len π v f)) refl
+    pub ends : present π v f (home + len v f) ≡ true
+    ends = go (ltb 0 (len v f)) refl
       where
-        go : (t : Bool) → ltb 0 (len π v f) ≡ t → present π v f (home + len π v f) ≡ true
-        go true q = asked-present (home + len π v f) (last-asked (len π v f) (ltb-true _ _ q))
-        go false q = ap (present π v f) (let z : home + len π v f ≡ home = omega (arith, ltb-false 0 (len π v f) q) in z) ∙ present-home π v f
+        go : (t : Bool) → ltb 0 (len v f) ≡ t → present π v f (home + len v f) ≡ true
+        go true q = asked-present (home + len v f) (last-asked (len v f) (ltb-true _ _ q))
+        go false q = ap (present π v f) (let z : home + len v f ≡ home = omega (arith, ltb-false 0 (len v f) q) in z) ∙ present-home π v f
 
-    numbers-tally : numbersGood π v f (len π v f) ≡ true → tally π v f ≡ true
+    numbers-tally : numbersGood π v f (len v f) ≡ true → tally π v f ≡ true
     unfolding numbersGood tally
     numbers-tally h =
         every-cons _ (ap (eqb (v f inUseAt)) found-size ∙ every-at _ h 0)
         (every-cons _ (ap (λ (k : ℕ). eqb (v f lowNumberAt) (number k)) found-least ∙ every-at _ h 2)
         (every-cons _ (ap (λ (k : ℕ). isLda (π .drive) (pair v f lowAddressAt) (spot π v f k)) found-least ∙ every-at _ h 3) every-nil))
 
-    numbers-last : numbersGood π v f (len π v f) ≡ true → isLda (π .drive) (pair v f lastAddressAt) (spot π v f (home + len π v f)) ≡ true
+    numbers-last : numbersGood π v f (len v f) ≡ true → isLda (π .drive) (pair v f lastAddressAt) (spot π v f (home + len v f)) ≡ true
     unfolding numbersGood
     numbers-last h = every-at _ h 1
 
@@ -205,17 +206,17 @@ module _ (π : Partition) (v : View) (f : ℕ) where
     short = short;
     good = λ k n p. named-lda k (named-here k n p);
     mine = λ k n p. named-member k (named-here k n p);
-    nil = nil-entry v f (len π v f) (every-at _ h 2);
+    nil = nil-entry v f (len v f) (every-at _ h 2);
     ends = ends short good;
     last = numbers-last short good (every-at _ h 3);
     full = asked-present short good;
     tallied = numbers-tally short good (every-at _ h 3);
   })
     where
-      short : len π v f ≤ reach
+      short : len v f ≤ reach
       short = leb-true _ _ (every-at _ h 0)
 
-      good : indexGood π v f (len π v f) ≡ true
+      good : indexGood π v f (len v f) ≡ true
       good = every-at _ h 1
 
       named-here : (k : ℕ) → k ≢ home → present π v f k ≡ true → named π v f k ≡ true
@@ -231,33 +232,33 @@ module _ (π : Partition) (v : View) (f : ℕ) where
         let m = w .mine k n p in
         every-cons _ (w .good k n p) (every-cons _ (m .ins) (every-cons _ (eq-eqb _ _ (m .ser)) (every-cons _ (eq-eqb _ _ (m .num)) every-nil)))
 
-    pub formed-index : indexGood π v f (len π v f) ≡ true
+    pub formed-index : indexGood π v f (len v f) ≡ true
     unfolding indexGood
     formed-index =
         both-of
-        (all-of _ _ (λ j l. here-named (288 - j) (λ z. omega arith) (w .full (288 - j) (closed-ptr (len π v f) (288 - j) (omega arith) (omega arith)))))
+        (all-of _ _ (λ j l. here-named (288 - j) (λ z. omega arith) (w .full (288 - j) (closed-ptr (len v f) (288 - j) (omega arith) (omega arith)))))
         (all-of _ _ (λ r l. here-named (292 + r) (λ z. omega arith) (w .full (292 + r) (omega (arith, first-data (292 + r) (omega arith))))))
 
-    spare-pointer : (j : ℕ) → 289 - low (len π v f) ≤ j → j < 32 → len π v f ≤ first (288 - j)
-    spare-pointer j a b = go (ltb (first (288 - j)) (len π v f)) refl
+    spare-pointer : (j : ℕ) → 289 - low (len v f) ≤ j → j < 32 → len v f ≤ first (288 - j)
+    spare-pointer j a b = go (ltb (first (288 - j)) (len v f)) refl
       where
-        go : (t : Bool) → ltb (first (288 - j)) (len π v f) ≡ t → len π v f ≤ first (288 - j)
-        go true q = absurd (omega (arith, asked-low (288 - j) (len π v f) (ltb-true _ _ q)))
+        go : (t : Bool) → ltb (first (288 - j)) (len v f) ≡ t → len v f ≤ first (288 - j)
+        go true q = absurd (omega (arith, asked-low (288 - j) (len v f) (ltb-true _ _ q)))
         go false q = ltb-false _ _ q
 
-    formed-nils : nilsGood v f (len π v f) ≡ true
+    formed-nils : nilsGood v f (len v f) ≡ true
     unfolding nilsGood
     formed-nils =
-        every-cons _ (all-of 64 _ (λ r l. or-of (ltb r (len π v f)) _ (λ q. eq-eqb _ _ (direct r l (ltb-false r _ q)))))
-        (every-cons _ (all-of 32 _ (λ j l. or-of (ltb j (289 - low (len π v f))) _ (λ q. eq-eqb _ _ (pointer j l (ltb-false j _ q)))))
+        every-cons _ (all-of 64 _ (λ r l. or-of (ltb r (len v f)) _ (λ q. eq-eqb _ _ (direct r l (ltb-false r _ q)))))
+        (every-cons _ (all-of 32 _ (λ j l. or-of (ltb j (289 - low (len v f))) _ (λ q. eq-eqb _ _ (pointer j l (ltb-false j _ q)))))
         (every-cons _ (eq-eqb _ _ (double 0 (omega arith))) (every-cons _ (eq-eqb _ _ (double 1 (omega arith))) every-nil)))
       where
-        direct : (r : ℕ) → r < 64 → len π v f ≤ r → pair v f (60 + 2 * r) ≡ 0
+        direct : (r : ℕ) → r < 64 → len v f ≤ r → pair v f (60 + 2 * r) ≡ 0
         direct r l m =
             let x = row-direct r l in
             ap (pair v f) (sym (x .1)) ∙ w .nil (292 + r) (λ z. omega arith) (x .0) (omega (arith, first-data (292 + r) (omega arith)))
 
-        pointer : (j : ℕ) → j < 32 → 289 - low (len π v f) ≤ j → pair v f (188 + 2 * j) ≡ 0
+        pointer : (j : ℕ) → j < 32 → 289 - low (len v f) ≤ j → pair v f (188 + 2 * j) ≡ 0
         pointer j l m =
             let x = row-ptr j l in
             ap (pair v f) (sym (x .1)) ∙ w .nil (288 - j) (λ z. omega arith) (x .0) (spare-pointer j m l)
@@ -267,7 +268,7 @@ module _ (π : Partition) (v : View) (f : ℕ) where
             let x = row-double i l in
             ap (pair v f) (sym (x .1)) ∙ w .nil (290 - i) (λ z. omega arith) (x .0) (omega (arith, w .short, first-doubles (290 - i) (omega arith) (omega arith)))
 
-    tally-numbers : tally π v f ≡ true → numbersGood π v f (len π v f) ≡ true
+    tally-numbers : tally π v f ≡ true → numbersGood π v f (len v f) ≡ true
     unfolding numbersGood tally
     tally-numbers t =
         every-cons _ (ap (eqb (v f inUseAt)) (sym (size-closed π v f h)) ∙ every-at _ t 0)

@@ -11,25 +11,16 @@ ghost use Rattle.inspect.specs.Parts.{Readable};
 use crate::index;
 use crate::keys;
 use crate::numbers;
-
-// Words of a file block.
-const DIRECT: usize = 60;
-
-const INDIRECT: usize = 188;
-
-const DOUBLE: usize = 252;
-
-const SECOND_DOUBLE: usize = 254;
-
-const IN_USE: usize = 257;
-
-const LAST_BLOCK: usize = 258;
-
-const LAST_ADDRESS: usize = 259;
-
-const LOW_NUMBER: usize = 261;
-
-const LOW_ADDRESS: usize = 262;
+use volume::Partition;
+use volume::words::DIRECT;
+use volume::words::DOUBLE;
+use volume::words::IN_USE;
+use volume::words::INDIRECT;
+use volume::words::LAST_ADDRESS;
+use volume::words::LAST_BLOCK;
+use volume::words::LOW_ADDRESS;
+use volume::words::LOW_NUMBER;
+use volume::words::SECOND_DOUBLE;
 
 // Whether of the n entries from word w on those from k on are nil: whether they add up to 0. With no way out of the loop the
 // compiler reads several at a time.
@@ -62,40 +53,40 @@ fn nils_good(img: &[u8], f: usize, n: usize) -> bool
 }
 
 // Whether the numbers and addresses of f, whose index is good, are those of its n blocks.
-fn numbers_good(img: &[u8], drive: usize, s: usize, e: usize, f: usize, n: usize) -> bool
-    requires { ⌜ (Readable (partitionOf drive s e) (now img) f) × (n ≡ len (partitionOf drive s e) (view (now img)) f) ⌝ }
-    ensures { λ r. ⌜ r ≡ numbersGood (partitionOf drive s e) (view (now (img .entry))) f n ⌝ }
+fn numbers_good(img: &[u8], p: Partition, f: usize, n: usize) -> bool
+    requires { ⌜ (Readable p (now img) f) × (n ≡ len (view (now img)) f) ⌝ }
+    ensures { λ r. ⌜ r ≡ numbersGood p (view (now (img .entry))) f n ⌝ }
 {
     if image::word(img, f, IN_USE) != keys::size_of(n) {
         return false;
     }
-    let last = index::at_key(img, drive, s, e, f, keys::HOME + n);
-    if !crate::is_lda(drive, image::pair(img, f, LAST_ADDRESS), last) {
+    let last = index::at_key(img, p, f, keys::HOME + n);
+    if !crate::is_lda(p.drive, image::pair(img, f, LAST_ADDRESS), last) {
         return false;
     }
     let low = keys::low(n);
     if !numbers::is_number(img, f, LOW_NUMBER, numbers::number_of(low)) {
         return false;
     }
-    let top = index::at_key(img, drive, s, e, f, low);
-    crate::is_lda(drive, image::pair(img, f, LOW_ADDRESS), top)
+    let top = index::at_key(img, p, f, low);
+    crate::is_lda(p.drive, image::pair(img, f, LOW_ADDRESS), top)
 }
 
 // Whether f is well formed.
-pub fn well_formed(img: &[u8], drive: usize, s: usize, e: usize, f: usize) -> bool
-    requires { ⌜ (Lies drive (now img) s e) × (f ≤ e) ⌝ }
-    ensures { λ r. ⌜ r ≡ wellFormed (partitionOf drive s e) (view (now (img .entry))) f ⌝ }
+pub fn well_formed(img: &[u8], p: Partition, f: usize) -> bool
+    requires { ⌜ (Lies p (now img)) × (f ≤ p .e) ⌝ }
+    ensures { λ r. ⌜ r ≡ wellFormed p (view (now (img .entry))) f ⌝ }
 {
     let l = image::signed_word(img, f, LAST_BLOCK);
     if !numbers::last_good(l) {
         return false;
     }
     let n = numbers::blocks_to(l);
-    if !index::index_good(img, drive, s, e, f, n) {
+    if !index::index_good(img, p, f, n) {
         return false;
     }
     if !nils_good(img, f, n) {
         return false;
     }
-    numbers_good(img, drive, s, e, f, n)
+    numbers_good(img, p, f, n)
 }

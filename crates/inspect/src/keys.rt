@@ -4,10 +4,14 @@ ghost use Prim.Native.Nat.{_≤_, _<_};
 ghost use Rattle.volume.specs.Keys.{low};
 ghost use Rattle.volume.specs.Closed.{hasKey, nextKey, prevKey, sizeOf, entriesOf};
 
-// The keys of the FIB and of pointer block -4.
+// The keys of the FIB, of block 0 and of pointer block -4, and how many blocks a file can have.
 pub const HOME: usize = 291;
 
-const POINTER: usize = 288;
+pub const FIRST: usize = 292;
+
+pub const POINTER: usize = 288;
+
+pub const REACH: usize = 4160;
 
 // The first key of a file with n blocks.
 pub fn low(n: usize) -> usize
@@ -26,7 +30,7 @@ pub fn has_key(n: usize, k: usize) -> bool
         return true;
     }
     if HOME < k {
-        return k - 292 < n;
+        return k - FIRST < n;
     }
     if POINTER < k {
         return false;

@@ -9,6 +9,11 @@ ghost use Rattle.volume.specs.Reads.{Lies};
 use base::Refusal;
 use volume::Found;
 use volume::Part;
+use volume::Partition;
+use volume::words::FIB;
+use volume::words::PARTITION_END;
+use volume::words::PARTITION_START;
+use volume::words::SERIAL;
 
 pub mod form; // form.rt: whether a file is well formed
 pub mod index; // index.rt: a file's index
@@ -19,7 +24,9 @@ pub use form::well_formed;
 pub use index::len;
 pub use index::name;
 pub use index::spot;
+pub use keys::FIRST;
 pub use keys::HOME;
+pub use keys::REACH;
 pub use keys::entries_of;
 pub use keys::has_key;
 pub use keys::low;
@@ -32,15 +39,6 @@ pub use numbers::is_number;
 pub use numbers::key_of;
 pub use numbers::last_good;
 pub use numbers::number_of;
-
-// Words of a header and of a PIB, and the relative number of a FIB.
-const SERIAL: usize = 0;
-
-const PARTITION_START: usize = 126;
-
-const PARTITION_END: usize = 128;
-
-const FIB: i32 = -1;
 
 // Whether x is the LDA of block b.
 fn is_lda(drive: usize, x: usize, b: usize) -> bool
@@ -110,55 +108,55 @@ pub fn partition(img: &[u8], drive: usize, s: usize) -> Part
 }
 
 // Whether f is a candidate of the partition s to e.
-pub fn candidate(img: &[u8], drive: usize, s: usize, e: usize, f: usize) -> bool
-    requires { ⌜ Lies drive (now img) s e ⌝ }
-    ensures { λ r. ⌜ r ≡ candidate (partitionOf drive s e) (view (now (img .entry))) f ⌝ }
+pub fn candidate(img: &[u8], p: Partition, f: usize) -> bool
+    requires { ⌜ Lies p (now img) ⌝ }
+    ensures { λ r. ⌜ r ≡ candidate p (view (now (img .entry))) f ⌝ }
 {
-    if f <= s {
+    if f <= p.s {
         return false;
     }
-    if e < f {
+    if p.e < f {
         return false;
     }
     // Before the serial, whose address is a division: most blocks are no FIB.
     if !numbers::has_number(img, f, FIB) {
         return false;
     }
-    image::pair(img, f, SERIAL) == drive::pda(drive, f)
+    image::pair(img, f, SERIAL) == drive::pda(p.drive, f)
 }
 
 // Whether f is a file.
-pub fn is_file(img: &[u8], drive: usize, s: usize, e: usize, f: usize) -> bool
-    requires { ⌜ Lies drive (now img) s e ⌝ }
-    ensures { λ r. ⌜ r ≡ isFile (partitionOf drive s e) (view (now (img .entry))) f ⌝ }
+pub fn is_file(img: &[u8], p: Partition, f: usize) -> bool
+    requires { ⌜ Lies p (now img) ⌝ }
+    ensures { λ r. ⌜ r ≡ isFile p (view (now (img .entry))) f ⌝ }
 {
-    if candidate(img, drive, s, e, f) {
-        form::well_formed(img, drive, s, e, f)
+    if candidate(img, p, f) {
+        form::well_formed(img, p, f)
     } else {
         false
     }
 }
 
 // Whether f is a malformed candidate.
-fn is_malformed(img: &[u8], drive: usize, s: usize, e: usize, f: usize) -> bool
-    requires { ⌜ Lies drive (now img) s e ⌝ }
-    ensures { λ r. ⌜ r ≡ isMalformed (partitionOf drive s e) (view (now (img .entry))) f ⌝ }
+fn is_malformed(img: &[u8], p: Partition, f: usize) -> bool
+    requires { ⌜ Lies p (now img) ⌝ }
+    ensures { λ r. ⌜ r ≡ isMalformed p (view (now (img .entry))) f ⌝ }
 {
-    if candidate(img, drive, s, e, f) {
-        !form::well_formed(img, drive, s, e, f)
+    if candidate(img, p, f) {
+        !form::well_formed(img, p, f)
     } else {
         false
     }
 }
 
 // The lowest malformed candidate.
-pub fn lowest_malformed(img: &[u8], drive: usize, s: usize, e: usize) -> Found
-    requires { ⌜ Lies drive (now img) s e ⌝ }
-    ensures { λ r. ⌜ r ≡ lowestMalformed (partitionOf drive s e) (view (now (img .entry))) ⌝ }
+pub fn lowest_malformed(img: &[u8], p: Partition) -> Found
+    requires { ⌜ Lies p (now img) ⌝ }
+    ensures { λ r. ⌜ r ≡ lowestMalformed p (view (now (img .entry))) ⌝ }
 {
-    let end = e + 1;
-    for f in s + 1..end {
-        if is_malformed(img, drive, s, e, f) {
+    let end = p.e + 1;
+    for f in p.s + 1..end {
+        if is_malformed(img, p, f) {
             return Found::At(f);
         }
     }

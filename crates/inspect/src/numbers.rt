@@ -11,9 +11,7 @@ ghost use Rattle.image.specs.Signed.{signed, wordOf};
 ghost use Rattle.volume.specs.Words.{relativeAt};
 ghost use Rattle.volume.specs.Keys.{keyOf, number};
 ghost use Rattle.inspect.specs.Numbers.{lastGood, blocksTo};
-
-// The word of a header that holds the relative number.
-const RELATIVE: usize = 2;
+use volume::words::RELATIVE;
 
 // Whether word w of block b is the signed number n.
 pub fn is_number(img: &[u8], b: usize, w: usize, n: i32) -> bool

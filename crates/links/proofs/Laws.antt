@@ -16,7 +16,8 @@ use Rattle.image.specs.Image.{view}
 use Rattle.volume.specs.Words.{serialAt, relativeAt}
 use Rattle.volume.specs.Keys.{home, keyOf, low}
 use Rattle.volume.specs.KeyLaws.{low-pos}
-use Rattle.volume.specs.Files.{Partition, partitionOf, isMalformed, candidate, wellFormed, isFile, len, spot, present, above, below, least, link, fileOf, key, owned}
+use Rattle.volume.specs.Files.{partitionOf, isMalformed, candidate, wellFormed, isFile, len, spot, present, above, below, least, link, fileOf, key, owned}
+use Rattle.volume.specs.declared.Partition.{Partition}
 use Rattle.volume.specs.Index.{present-low, present-high}
 use Rattle.volume.specs.Closed.{hasKey, nextKey, prevKey, has-only, present-closed, above-closed, below-closed, least-closed}
 use Rattle.volume.specs.Answers.{lowest, lowestMalformed, Unmarred}
@@ -54,9 +55,8 @@ module _ (π : Partition) (v : View) (none : Unmarred π v) where
       go false w = absurd (true≢false (sym (rw (c, w, isMalformed)) ∙ lowest-none (isMalformed π v) ((π .e) - (π .s)) ((π .s) + 1) none f (omega (arith, i .0)) (omega (arith, i .0, i .1))))
 
 -- a candidate's index can be read
-pub opened : {d : ℕ} {l : List ℕ} {s e : ℕ} → Lies d l s e → Unmarred (partitionOf d s e) (view l) → (f : ℕ)
-    → candidate (partitionOf d s e) (view l) f ≡ true → Opened (partitionOf d s e) l f
-opened {d} {l} {s} {e} i none f c = wf-opened f i (candidate-in (partitionOf d s e) (view l) f c .1) (formed (partitionOf d s e) (view l) none f c)
+pub opened : {π : Partition} {l : List ℕ} → Lies π l → Unmarred π (view l) → (f : ℕ) → candidate π (view l) f ≡ true → Opened π l f
+opened {π} {l} i none f c = wf-opened f i (candidate-in π (view l) f c .1) (formed π (view l) none f c)
 
 pub is-file : (π : Partition) (v : View) → Unmarred π v → (f : ℕ) → candidate π v f ≡ true → isFile π v f ≡ true
 unfolding isFile
@@ -66,9 +66,9 @@ is-file π v none f c = both-of c (formed π v none f c)
 
 module _ {π : Partition} {l : List ℕ} {f : ℕ} (o : Opened π l f) (k : ℕ) (p : present π (view l) f k ≡ true) where
   pub key-pos : 0 < k
-  key-pos = omega (arith, present-low π (view l) f k p, low-pos (len π (view l) f) (opened-few o))
+  key-pos = omega (arith, present-low π (view l) f k p, low-pos (len (view l) f) (opened-few o))
 
-  pub key-high : k ≤ home + len π (view l) f
+  pub key-high : k ≤ home + len (view l) f
   key-high = present-high π (view l) f k p
 
   pub key-few : k < 65536
@@ -76,13 +76,13 @@ module _ {π : Partition} {l : List ℕ} {f : ℕ} (o : Opened π l f) (k : ℕ)
 
   -- a pointer block names data
   pub key-pointer : k < home → k ≤ 288
-  key-pointer h = go (has-only (len π (view l) f) (opened-few o) (present π (view l) f) (present-closed π (view l) f (o .formed)) k p)
+  key-pointer h = go (has-only (len (view l) f) (opened-few o) (present π (view l) f) (present-closed π (view l) f (o .formed)) k p)
     where
-      go : ((low (len π (view l) f) ≤ k) × (k < 289)) ⊎ ((home ≤ k) × (k ≤ home + len π (view l) f)) → k ≤ 288
+      go : ((low (len (view l) f) ≤ k) × (k < 289)) ⊎ ((home ≤ k) × (k ≤ home + len (view l) f)) → k ≤ 288
       go (inl x) = omega (arith, x .1)
       go (inr x) = absurd (omega (arith, x .0))
 
-module _ {π : Partition} {l : List ℕ} {f n : ℕ} (o : Opened π l f) (q : n ≡ len π (view l) f) where
+module _ {π : Partition} {l : List ℕ} {f n : ℕ} (o : Opened π l f) (q : n ≡ len (view l) f) where
   pub len-few : n ≤ 4160
   len-few = omega (arith, q, opened-few o)
 
@@ -125,7 +125,7 @@ module _ (π : Partition) (v : View) (b x f : ℕ) (hx : x ≡ pair v b serialAt
   owned-not-serial h = sym (both-no _ _ (ne-eqb _ _ (λ q. h (hx ∙ q ∙ ap (pda (π .drive)) file-is))))
 
   module _ (k : ℕ) (hk : k ≡ keyOf (v b relativeAt)) where
-    key-is : key π v b ≡ k
+    key-is : key v b ≡ k
     unfolding key
     key-is = sym hk
 

@@ -14,7 +14,8 @@ use Rattle.image.specs.Image.{view}
 use Rattle.volume.specs.Words.{nextAt, previousAt, slotAt}
 use Rattle.volume.specs.Keys.{home, child, first}
 use Rattle.volume.specs.KeyLaws.{low-pos}
-use Rattle.volume.specs.Files.{Partition, len, spot, present, above, below, least, link, linkTest, tailTest, linked}
+use Rattle.volume.specs.Files.{len, spot, present, above, below, least, link, linkTest, tailTest, linked}
+use Rattle.volume.specs.declared.Partition.{Partition}
 use Rattle.volume.specs.Index.{span-at, span-of, present-low, present-high}
 use Rattle.volume.specs.Order.{Next, prev-one, above-is, below-is, least-is, least-present, above-below}
 use Rattle.volume.specs.Closed.{entriesOf, entry-asked}
@@ -71,7 +72,7 @@ module _ (π : Partition) (v : View) (f k : ℕ) where
   pub tails-none : home ≤ k → tails ≡ true
   tails-none h = rw (le-leb home k h)
 
-  pub tails-are : {n q : ℕ} {r : Bool} → k < home → n ≡ len π v f → q ≡ spot π v f k → r ≡ all 128 (Tail v n k q) → tails ≡ r
+  pub tails-are : {n q : ℕ} {r : Bool} → k < home → n ≡ len v f → q ≡ spot π v f k → r ≡ all 128 (Tail v n k q) → tails ≡ r
   tails-are l h j e = rw (lt-leb home k l) (sym (e ∙ ap₂ (λ (x y : ℕ). all 128 (Tail v x k y)) h j))
 
   test-absent : present π v f k ≡ false → linkTest π v f k ≡ true
@@ -116,7 +117,7 @@ module _ {π : Partition} {l : List ℕ} {f : ℕ} (o : Opened π l f) where
   fails k p h = go (linked π (view l) f) refl
     where
       go : (t : Bool) → linked π (view l) f ≡ t → false ≡ t
-      go true q = absurd (true≢false (sym (span-at (len π (view l) f) (linkTest π (view l) f) q k (present-low π (view l) f k p) (present-high π (view l) f k p)) ∙ h))
+      go true q = absurd (true≢false (sym (span-at (len (view l) f) (linkTest π (view l) f) q k (present-low π (view l) f k p) (present-high π (view l) f k p)) ∙ h))
       go false q = refl
 
   pub link-starts : {k b own : ℕ} → k ≡ least π (view l) f → (b ≡ spot π (view l) f k) × (b ≤ π .e) → own ≡ pda (π .drive) b → Linking π l f k 0 b own
@@ -169,7 +170,7 @@ module _ {π : Partition} {l : List ℕ} {f : ℕ} (o : Opened π l f) where
 
         go : (u : Bool) → r ≡ u → r ≡ linked π (view l) f
         go false q = q ∙ fails k (g .at .there) (sym is ∙ q)
-        go true q = q ∙ sym (span-of (len π (view l) f) (linkTest π (view l) f) (λ i a m. upto (sym is ∙ q) i (omega (arith, low-pos (len π (view l) f) (opened-few o))) (λ n. absurd (n z))))
+        go true q = q ∙ sym (span-of (len (view l) f) (linkTest π (view l) f) (λ i a m. upto (sym is ∙ q) i (omega (arith, low-pos (len (view l) f) (opened-few o))) (λ n. absurd (n z))))
 
     module _ (n : j ≢ 0) {c y : ℕ} (h : (c ≡ spot π (view l) f j) × (c ≤ π .e)) (q : y ≡ pda (π .drive) c) {r : Bool} (hr : r ≡ links (view l) b y before) where
       is : r ≡ linkTest π (view l) f k

@@ -14,17 +14,12 @@ ghost use Rattle.volume.specs.Files.{partitionOf, owned, len, present, above, b
 ghost use Rattle.volume.specs.Answers.{Unmarred};
 ghost use Rattle.volume.specs.Reads.{Lies};
 ghost use Rattle.inspect.specs.Parts.{Opened};
-
-// Words of a header, and the first entry of a pointer block.
-const SERIAL: usize = 0;
-
-const RELATIVE: usize = 2;
-
-const NEXT: usize = 4;
-
-const PREVIOUS: usize = 6;
-
-const SLOTS: usize = 8;
+use volume::Partition;
+use volume::words::NEXT;
+use volume::words::PREVIOUS;
+use volume::words::RELATIVE;
+use volume::words::SERIAL;
+use volume::words::SLOTS;
 
 // The key that the relative number of block b is.
 pub fn key_in(img: &[u8], b: usize) -> usize
@@ -35,51 +30,51 @@ pub fn key_in(img: &[u8], b: usize) -> usize
 }
 
 // Whether block b is owned, where no candidate is malformed: its header leads to a file, and the file to this very block.
-pub fn owned(img: &[u8], drive: usize, s: usize, e: usize, b: usize) -> bool
-    requires { ⌜ (Lies drive (now img) s e) × (b ≤ e) × (Unmarred (partitionOf drive s e) (view (now img))) ⌝ }
-    ensures { λ r. ⌜ r ≡ owned (partitionOf drive s e) (view (now (img .entry))) b ⌝ }
+pub fn owned(img: &[u8], p: Partition, b: usize) -> bool
+    requires { ⌜ (Lies p (now img)) × (b ≤ p .e) × (Unmarred p (view (now img))) ⌝ }
+    ensures { λ r. ⌜ r ≡ owned p (view (now (img .entry))) b ⌝ }
 {
     let x = image::pair(img, b, SERIAL);
-    let f = drive::pda_block(drive, x);
-    if !inspect::candidate(img, drive, s, e, f) {
+    let f = drive::pda_block(p.drive, x);
+    if !inspect::candidate(img, p, f) {
         return false;
     }
-    if x != drive::pda(drive, f) {
+    if x != drive::pda(p.drive, f) {
         return false;
     }
-    let n = inspect::len(img, drive, s, e, f);
+    let n = inspect::len(img, f);
     let k = key_in(img, b);
     if !inspect::has_key(n, k) {
         return false;
     }
-    inspect::spot(img, drive, s, e, f, k) == b
+    inspect::spot(img, p, f, k) == b
 }
 
 // The link to key k of f, nil for none.
-fn link_to(img: &[u8], drive: usize, s: usize, e: usize, f: usize, k: usize) -> usize
-    requires { ⌜ (Opened (partitionOf drive s e) (now img) f) × (k ≢ 0 → present (partitionOf drive s e) (view (now img)) f k ≡ true) ⌝ }
-    ensures { λ r. ⌜ r ≡ link (partitionOf drive s e) (view (now (img .entry))) f k ⌝ }
+fn link_to(img: &[u8], p: Partition, f: usize, k: usize) -> usize
+    requires { ⌜ (Opened p (now img) f) × (k ≢ 0 → present p (view (now img)) f k ≡ true) ⌝ }
+    ensures { λ r. ⌜ r ≡ link p (view (now (img .entry))) f k ⌝ }
 {
     if k == 0 {
         return 0;
     }
-    drive::pda(drive, inspect::spot(img, drive, s, e, f, k))
+    drive::pda(p.drive, inspect::spot(img, p, f, k))
 }
 
 // The next link that key k of f should have; f has n blocks.
-pub fn next_of(img: &[u8], drive: usize, s: usize, e: usize, f: usize, n: usize, k: usize) -> usize
-    requires { ⌜ (Opened (partitionOf drive s e) (now img) f) × (n ≡ len (partitionOf drive s e) (view (now img)) f) × (present (partitionOf drive s e) (view (now img)) f k ≡ true) ⌝ }
-    ensures { λ r. ⌜ r ≡ link (partitionOf drive s e) (view (now (img .entry))) f (above (partitionOf drive s e) (view (now (img .entry))) f k) ⌝ }
+pub fn next_of(img: &[u8], p: Partition, f: usize, n: usize, k: usize) -> usize
+    requires { ⌜ (Opened p (now img) f) × (n ≡ len (view (now img)) f) × (present p (view (now img)) f k ≡ true) ⌝ }
+    ensures { λ r. ⌜ r ≡ link p (view (now (img .entry))) f (above p (view (now (img .entry))) f k) ⌝ }
 {
-    link_to(img, drive, s, e, f, inspect::next_key(n, k))
+    link_to(img, p, f, inspect::next_key(n, k))
 }
 
 // The previous link that key k of f should have.
-pub fn prev_of(img: &[u8], drive: usize, s: usize, e: usize, f: usize, n: usize, k: usize) -> usize
-    requires { ⌜ (Opened (partitionOf drive s e) (now img) f) × (n ≡ len (partitionOf drive s e) (view (now img)) f) × (present (partitionOf drive s e) (view (now img)) f k ≡ true) ⌝ }
-    ensures { λ r. ⌜ r ≡ link (partitionOf drive s e) (view (now (img .entry))) f (below (partitionOf drive s e) (view (now (img .entry))) f k) ⌝ }
+pub fn prev_of(img: &[u8], p: Partition, f: usize, n: usize, k: usize) -> usize
+    requires { ⌜ (Opened p (now img) f) × (n ≡ len (view (now img)) f) × (present p (view (now img)) f k ≡ true) ⌝ }
+    ensures { λ r. ⌜ r ≡ link p (view (now (img .entry))) f (below p (view (now (img .entry))) f k) ⌝ }
 {
-    link_to(img, drive, s, e, f, inspect::prev_key(n, k))
+    link_to(img, p, f, inspect::prev_key(n, k))
 }
 
 // Whether block b has the links `next` and `previous`.
@@ -110,15 +105,15 @@ fn tail_good(img: &[u8], n: usize, k: usize, q: usize) -> bool
 
 // Whether the blocks of f are linked in order, from key to key. At key k the walk has its block b, the address of b, and that of the
 // block before.
-pub fn linked(img: &[u8], drive: usize, s: usize, e: usize, f: usize) -> bool
-    requires { ⌜ Opened (partitionOf drive s e) (now img) f ⌝ }
-    ensures { λ r. ⌜ r ≡ linked (partitionOf drive s e) (view (now (img .entry))) f ⌝ }
+pub fn linked(img: &[u8], p: Partition, f: usize) -> bool
+    requires { ⌜ Opened p (now img) f ⌝ }
+    ensures { λ r. ⌜ r ≡ linked p (view (now (img .entry))) f ⌝ }
 {
-    let n = inspect::len(img, drive, s, e, f);
+    let n = inspect::len(img, f);
     let mut k = inspect::low(n);
     let mut before: usize = 0;
-    let mut b = inspect::spot(img, drive, s, e, f, k);
-    let mut own = drive::pda(drive, b);
+    let mut b = inspect::spot(img, p, f, k);
+    let mut own = drive::pda(p.drive, b);
     loop {
         if k < inspect::HOME {
             if !tail_good(img, n, k, b) {
@@ -129,8 +124,8 @@ pub fn linked(img: &[u8], drive: usize, s: usize, e: usize, f: usize) -> bool
         if j == 0 {
             return link_good(img, b, 0, before);
         }
-        let c = inspect::spot(img, drive, s, e, f, j);
-        let next = drive::pda(drive, c);
+        let c = inspect::spot(img, p, f, j);
+        let next = drive::pda(p.drive, c);
         if !link_good(img, b, next, before) {
             return false;
         }

@@ -9,6 +9,7 @@ ghost use Rattle.volume.specs.Reads.{Lies};
 use volume::Found;
 use volume::Outcome;
 use volume::Part;
+use volume::Partition;
 
 // The larger of two numbers.
 fn most(a: usize, b: usize) -> usize
@@ -18,17 +19,17 @@ fn most(a: usize, b: usize) -> usize
 }
 
 // The lowest file above b.
-fn file_above(img: &[u8], drive: usize, s: usize, e: usize, b: usize) -> Found
-    requires { ⌜ Lies drive (now img) s e ⌝ }
-    ensures { λ r. ⌜ r ≡ fileAbove (partitionOf drive s e) (view (now (img .entry))) b ⌝ }
+fn file_above(img: &[u8], p: Partition, b: usize) -> Found
+    requires { ⌜ Lies p (now img) ⌝ }
+    ensures { λ r. ⌜ r ≡ fileAbove p (view (now (img .entry))) b ⌝ }
 {
-    let a = most(b, s);
-    if e <= a {
+    let a = most(b, p.s);
+    if p.e <= a {
         return Found::Nothing;
     }
-    let end = e + 1;
+    let end = p.e + 1;
     for f in a + 1..end {
-        if inspect::is_file(img, drive, s, e, f) {
+        if inspect::is_file(img, p, f) {
             return Found::At(f);
         }
     }
@@ -42,7 +43,7 @@ pub fn next_file(img: &[u8], drive: usize, s: usize, after: usize) -> Outcome
     let p = inspect::partition(img, drive, s);
     match p {
         Part::Good(e) => {
-            let x = file_above(img, drive, s, e, after);
+            let x = file_above(img, Partition { drive, s, e }, after);
             match x {
                 Found::At(f) => Outcome::Done(f, 0, 0),
                 Found::Nothing => Outcome::Absent,

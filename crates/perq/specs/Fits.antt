@@ -13,7 +13,8 @@ use Rattle.base.specs.declared.Refusal.the-variants.{BadImage, BadPartition, Ma
 use Rattle.image.specs.View.{View}
 use Rattle.image.specs.Image.{view}
 use Rattle.image.specs.Saves.{words}
-use Rattle.volume.specs.Files.{Partition, partitionOf, inside, candidate, wellFormed, isFile, isMalformed, owned, sound, blockAt, len, name, freeHead, free, unowned}
+use Rattle.volume.specs.Files.{partitionOf, inside, candidate, wellFormed, isFile, isMalformed, owned, sound, blockAt, len, name, freeHead, free, unowned}
+use Rattle.volume.specs.declared.Partition.{Partition}
 use Rattle.volume.specs.Keys.{reach}
 use Rattle.volume.specs.KeyLaws.{first-data}
 use Rattle.volume.specs.Index.{wf-of, member}
@@ -107,15 +108,15 @@ module _ (π : Partition) (v : View) (few : π .e < 69552) where
 
   show-fits : (f r : ℕ) → OutcomeFits (showIn π v f r)
   unfolding showIn
-  show-fits f r = file-fits f _ (λ c w. pick-fits (ltb r reach) _ _ (λ _. go c w (ltb r (len π v f)) refl) (omega arith))
+  show-fits f r = file-fits f _ (λ c w. pick-fits (ltb r reach) _ _ (λ _. go c w (ltb r (len v f)) refl) (omega arith))
     where
-      go : candidate π v f ≡ true → wellFormed π v f ≡ true → (t : Bool) → ltb r (len π v f) ≡ t → OutcomeFits (pick t (Done (528 * name π v f r + 16) 512 0) Absent)
-      go c w true q = (omega (arith, few, inside-of π (name π v f r) (member π v f c w (292 + r) (wf-of π v f w .full (292 + r) (omega (arith, first-data (292 + r) (omega arith), ltb-true r (len π v f) q))) .ins) .1), omega arith, omega arith)
+      go : candidate π v f ≡ true → wellFormed π v f ≡ true → (t : Bool) → ltb r (len v f) ≡ t → OutcomeFits (pick t (Done (528 * name π v f r + 16) 512 0) Absent)
+      go c w true q = (omega (arith, few, inside-of π (name π v f r) (member π v f c w (292 + r) (wf-of π v f w .full (292 + r) (omega (arith, first-data (292 + r) (omega arith), ltb-true r (len v f) q))) .ins) .1), omega arith, omega arith)
       go c w false q = tt
 
   extract-fits : (f n : ℕ) → OutcomeFits (extractIn π v f n)
   unfolding extractIn
-  extract-fits f n = file-fits f _ (λ c w. pick-fits (eqb n (512 * len π v f)) _ _ (λ _. (omega (arith, wf-of π v f w .short), omega arith, omega arith)) (omega arith))
+  extract-fits f n = file-fits f _ (λ c w. pick-fits (eqb n (512 * len v f)) _ _ (λ _. (omega (arith, wf-of π v f w .short), omega arith, omega arith)) (omega arith))
 
 module _ (d : ℕ) (l : List ℕ) (s : ℕ) where
   pub checked-fits : OutcomeFits (checked d l s)
@@ -223,7 +224,7 @@ module _ (d : ℕ) (l : List ℕ) (s e : ℕ) where
   write-fits f r dat =
       pickp-fits (candidate π (view l) f) _ _
       (λ _. pickp-fits (ltb r reach) _ _
-      (λ _. pickp-fits (ltb r (len π (view l) f)) _ _ (λ _. done-fits) (λ _. pickp-fits (eqb r (len π (view l) f)) _ _ (λ _. append-fits f r dat) (λ _. omega arith)))
+      (λ _. pickp-fits (ltb r (len (view l) f)) _ _ (λ _. done-fits) (λ _. pickp-fits (eqb r (len (view l) f)) _ _ (λ _. append-fits f r dat) (λ _. omega arith)))
       (λ _. omega arith))
       (λ _. omega arith)
 

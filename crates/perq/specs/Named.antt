@@ -8,7 +8,8 @@ use lib.Dec.{ltb, eqb}
 use borrow.Author.Tests.{ltb-true}
 use Rattle.base.specs.Tests.{pick, both}
 use Rattle.base.specs.declared.Refusal.the-variants.{BadBuffer}
-use Rattle.volume.specs.Files.{Partition, partitionOf}
+use Rattle.volume.specs.Files.{partitionOf}
+use Rattle.volume.specs.declared.Partition.{Partition}
 use Rattle.volume.specs.Reads.{lies}
 use Rattle.volume.specs.Answers.{partition, inPartition}
 use Rattle.volume.specs.declared.Found.{Found}

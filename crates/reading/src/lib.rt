@@ -5,6 +5,7 @@ ghost use Rattle.volume.specs.Answers.{readFrom, plain, readInto, describedAs, 
 use base::Refusal;
 use volume::Outcome;
 use volume::Part;
+use volume::Partition;
 
 // The bytes of src over the buffer, which is as long.
 pub fn put(buf: &mut [u8], src: &[u8])
@@ -22,7 +23,7 @@ fn read_from(img: &[u8], drive: usize, s: usize, f: usize, r: usize, n: usize) -
     match p {
         Part::Good(e) => {
             if n == 512 {
-                shows::show_in(img, drive, s, e, f, r)
+                shows::show_in(img, Partition { drive, s, e }, f, r)
             } else {
                 Outcome::Refused(Refusal::BadBuffer)
             }
@@ -62,10 +63,10 @@ fn described_as(img: &[u8], drive: usize, s: usize, f: usize, n: usize) -> Outco
             if n != 104 {
                 return Outcome::Refused(Refusal::BadBuffer);
             }
-            if !inspect::candidate(img, drive, s, e, f) {
+            if !inspect::candidate(img, Partition { drive, s, e }, f) {
                 return Outcome::Refused(Refusal::NoCandidate);
             }
-            if inspect::well_formed(img, drive, s, e, f) {
+            if inspect::well_formed(img, Partition { drive, s, e }, f) {
                 Outcome::Done(0, 0, 0)
             } else {
                 Outcome::Refused(Refusal::Malformed(f))

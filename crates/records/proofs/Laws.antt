@@ -6,11 +6,12 @@ use native.Mathlib.Omega.{arith}
 use Rattle.image.specs.View.{Store}
 use Rattle.image.specs.Saves.{saves, Made}
 use Rattle.image.specs.declared.Save.{Save}
+use Rattle.volume.specs.declared.Partition.{Partition}
 use Rattle.volume.specs.Reads.{Lies}
 use Rattle.records.specs.Records.{Block, StandsFor}
 
 -- a block up to the partition's last lies in the image
-pub block-in : {d : ℕ} {l : List ℕ} {s e : ℕ} → Lies d l s e → (b : ℕ) → b ≤ e → Block l b
+pub block-in : {π : Partition} {l : List ℕ} → Lies π l → (b : ℕ) → b ≤ π .e → Block l b
 block-in o b h = record { within = omega (arith, o .within); few = omega (arith, o .few) }
 
 -- a save of a block of the image, or none

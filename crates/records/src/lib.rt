@@ -10,21 +10,19 @@ ghost use Rattle.image.specs.Saves.{words, Made};
 ghost use Rattle.volume.specs.Plans.{st, stores, newFirst, pibLess, freshFib};
 ghost use Rattle.records.specs.Records.{Block, StandsFor, created, replaced, described};
 use image::Save;
-use words::FIB;
-use words::FILLER;
-use words::FREE_HEAD;
-use words::IN_USE;
-use words::KIND;
-use words::LAST_ADDRESS;
-use words::LAST_BLOCK;
-use words::LOW_ADDRESS;
-use words::LOW_NUMBER;
-use words::NUMBER_FREE;
-use words::PREVIOUS;
-use words::RELATIVE;
-use words::SERIAL;
-
-pub mod words;
+use volume::words::FIB;
+use volume::words::FILLER;
+use volume::words::FREE_HEAD;
+use volume::words::IN_USE;
+use volume::words::KIND;
+use volume::words::LAST_ADDRESS;
+use volume::words::LAST_BLOCK;
+use volume::words::LOW_ADDRESS;
+use volume::words::LOW_NUMBER;
+use volume::words::NUMBER_FREE;
+use volume::words::PREVIOUS;
+use volume::words::RELATIVE;
+use volume::words::SERIAL;
 
 // The physical address of block b, which fits a pair of words.
 pub fn pda_of(drive: usize, b: usize) -> usize
@@ -94,13 +92,13 @@ fn fresh_save(img: &[u8], drive: usize, h: usize, kind: usize) -> Save
 {
     let own = lda_of(drive, h);
     let x = image::with_pair(image::blank(), LOW_ADDRESS, own);
-    let x = image::with_word(x, LOW_NUMBER, FIB);
+    let x = image::with_signed(x, LOW_NUMBER, FIB);
     let x = image::with_pair(x, LAST_ADDRESS, own);
-    let x = image::with_word(x, LAST_BLOCK, FIB);
+    let x = image::with_signed(x, LAST_BLOCK, FIB);
     let x = image::with_word(x, IN_USE, 1);
     let x = image::with_word(x, KIND, kind);
     let x = image::with_word(x, FILLER, image::word(img, h, FILLER));
-    let x = image::with_word(x, RELATIVE, FIB);
+    let x = image::with_signed(x, RELATIVE, FIB);
     image::saved(h, image::with_pair(x, SERIAL, pda_of(drive, h)))
 }
 

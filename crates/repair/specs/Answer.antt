@@ -16,7 +16,8 @@ use Rattle.image.specs.Image.{view}
 use Rattle.image.specs.Stores.{stored}
 use Rattle.image.specs.Saves.{Applied}
 use Rattle.image.proofs.Laws.{made}
-use Rattle.volume.specs.Files.{Partition, partitionOf, unowned}
+use Rattle.volume.specs.Files.{partitionOf, unowned}
+use Rattle.volume.specs.declared.Partition.{Partition}
 use Rattle.volume.specs.Answers.{partition, lowestMalformed}
 use Rattle.volume.specs.Plans.{Plan, stores, repairPlan}
 use Rattle.volume.specs.Calls.{Planned, refuse, finish, repairIn, planned, Call, Answered}

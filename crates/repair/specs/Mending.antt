@@ -17,7 +17,8 @@ use Rattle.image.specs.Stores.{stored, over, bytesOf, Fits, In, view-over, over
 use Rattle.image.specs.Saves.{Applied}
 use Rattle.image.proofs.Laws.{then}
 use Rattle.volume.specs.Words.{freeHeadAt, freeTailAt, numberFreeAt}
-use Rattle.volume.specs.Files.{Partition, address, owned, unowned}
+use Rattle.volume.specs.Files.{address, owned, unowned}
+use Rattle.volume.specs.declared.Partition.{Partition}
 use Rattle.volume.specs.Answers.{Unmarred}
 use Rattle.volume.specs.Frame.{Clean, Formed, formed, agree-clean, agree-owned, agree-unowned}
 use Rattle.volume.specs.Plans.{st, stores, repaired, repairedPib, repairPlan, repairStores}

@@ -7,16 +7,17 @@ use native.Mathlib.Omega.{arith}
 use lib.ListN.{length}
 use borrow.Author.Tests.{not-true, not-false}
 use Rattle.base.specs.Tests.{those, headOf, above, below}
+use Rattle.drive.specs.Address.{orNil}
 use Rattle.image.specs.View.{Rec, Store, put, put2}
 use Rattle.image.specs.Image.{view}
 use Rattle.image.specs.Saves.{Applied}
 use Rattle.volume.specs.Words.{serialAt, fillerAt, nextAt, previousAt}
-use Rattle.volume.specs.Files.{Partition, owned, unowned}
+use Rattle.volume.specs.Files.{owned, unowned}
+use Rattle.volume.specs.declared.Partition.{Partition}
 use Rattle.volume.specs.Plans.{st, asFiller, relinked, freed, repaired}
 use Rattle.frame.specs.Repair.{repaired-mine, repaired-free}
 use Rattle.repair.specs.declared.Progress.{Progress}
 use Rattle.blocks.specs.Standing.{head-under, stand-hit, stand-miss, stand-below, stand-above, stand-on, stand-past, last-few, many-few}
-use Rattle.blocks.specs.Records.{linkTo}
 use Rattle.repair.specs.Mending.{isFree, Turn, Turned}
 
 module _ {π : Partition} {l : List ℕ} {first b : ℕ} {t : Progress} (g : Turn π l first b t) where
@@ -38,7 +39,7 @@ module _ {π : Partition} {l : List ℕ} {first b : ℕ} {t : Progress} (g : Tur
 
   -- an unowned block, and the first unowned one above it
   pub turned-free : {l′ : List ℕ} {ss : List Store} {left x : ℕ} {R : Rec} → b ≡ t .next → x ≡ headOf 0 (those (b + 1) (suc (π .e) - (b + 1)) (isFree π (view l)))
-      → R ≡ put2 serialAt 0 (put fillerAt (asFiller first) (put2 nextAt (linkTo (π .drive) x) (put2 previousAt (linkTo (π .drive) (t .last)) (view l b))))
+      → R ≡ put2 serialAt 0 (put fillerAt (asFiller first) (put2 nextAt (orNil (π .drive) x) (put2 previousAt (orNil (π .drive) (t .last)) (view l b))))
       → ss ≡ st b R ∷ [] → Applied (t .left) ss l l′ left → Turned π l l′ b t (record { left = left; last = b; next = x; count = t .count + 1 })
   unfolding freed unowned
   turned-free {l′} {ss} {left} {x} {R} h q e j p =

@@ -14,6 +14,7 @@ use volume::Answer;
 use volume::Found;
 use volume::Outcome;
 use volume::Part;
+use volume::Partition;
 
 // How far repair has come: the stores that the limit leaves, the last unowned block passed and the first one ahead, each 0 if there is
 // none, and how many unowned blocks were passed.
@@ -25,13 +26,13 @@ struct Progress {
 }
 
 // The first unowned block from `from` on, or 0.
-fn unowned_from(img: &[u8], drive: usize, s: usize, e: usize, from: usize) -> usize
-    requires { ⌜ Ready (partitionOf drive s e) (now img) ⌝ }
-    ensures { λ r. ⌜ r ≡ headOf 0 (those from (suc e - from) (isFree (partitionOf drive s e) (view (now (img .entry))))) ⌝ }
+fn unowned_from(img: &[u8], p: Partition, from: usize) -> usize
+    requires { ⌜ Ready p (now img) ⌝ }
+    ensures { λ r. ⌜ r ≡ headOf 0 (those from (suc (p .e) - from) (isFree p (view (now (img .entry))))) ⌝ }
 {
-    let end = e + 1;
+    let end = p.e + 1;
     for b in from..end {
-        if !links::owned(img, drive, s, e, b) {
+        if !links::owned(img, p, b) {
             return b;
         }
     }
@@ -39,25 +40,17 @@ fn unowned_from(img: &[u8], drive: usize, s: usize, e: usize, from: usize) -> us
 }
 
 // Repairs block b: an unowned one gets its neighbours in the chain from `first` on, an owned one its file's links.
-fn turn(
-    img: &mut [u8],
-    drive: usize,
-    s: usize,
-    e: usize,
-    first: usize,
-    b: usize,
-    t: Progress,
-) -> Progress
-    requires { ⌜ Turn (partitionOf drive s e) (now img) first b t ⌝ }
-    ensures { λ r. ⌜ Turned (partitionOf drive s e) (now (img .entry)) (now (img .exit)) b t r ⌝ }
+fn turn(img: &mut [u8], p: Partition, first: usize, b: usize, t: Progress) -> Progress
+    requires { ⌜ Turn p (now img) first b t ⌝ }
+    ensures { λ r. ⌜ Turned p (now (img .entry)) (now (img .exit)) b t r ⌝ }
 {
     let left = t.left;
     let last = t.last;
     let next = t.next;
     let count = t.count;
     if b == next {
-        let above = unowned_from(img, drive, s, e, b + 1);
-        let x = blocks::freed(img, drive, b, first, above, last);
+        let above = unowned_from(img, p, b + 1);
+        let x = blocks::freed(img, p.drive, b, first, above, last);
         return Progress {
             left: image::step(img, left, image::saved(b, x)),
             last: b,
@@ -65,7 +58,7 @@ fn turn(
             count: count + 1,
         };
     }
-    let x = blocks::relinked(img, drive, s, e, b);
+    let x = blocks::relinked(img, p, b);
     Progress {
         left: image::step(img, left, image::saved(b, x)),
         last,
@@ -75,9 +68,9 @@ fn turn(
 }
 
 // Repairs the blocks s+1 to e in order, under the limit.
-fn mend(img: &mut [u8], drive: usize, s: usize, e: usize, first: usize, limit: usize) -> Progress
-    requires { ⌜ (Ready (partitionOf drive s e) (now img)) × (first ≡ headOf 0 (unowned (partitionOf drive s e) (view (now img)))) ⌝ }
-    ensures { λ t. ⌜ Mending (partitionOf drive s e) (now (img .entry)) limit (now (img .exit)) (suc e) t ⌝ }
+fn mend(img: &mut [u8], p: Partition, first: usize, limit: usize) -> Progress
+    requires { ⌜ (Ready p (now img)) × (first ≡ headOf 0 (unowned p (view (now img)))) ⌝ }
+    ensures { λ t. ⌜ Mending p (now (img .entry)) limit (now (img .exit)) (suc (p .e)) t ⌝ }
 {
     let mut t = Progress {
         left: limit,
@@ -85,9 +78,9 @@ fn mend(img: &mut [u8], drive: usize, s: usize, e: usize, first: usize, limit: u
         next: first,
         count: 0,
     };
-    let end = e + 1;
-    for b in s + 1..end {
-        t = turn(img, drive, s, e, first, b, t);
+    let end = p.e + 1;
+    for b in p.s + 1..end {
+        t = turn(img, p, first, b, t);
     }
     t
 }
@@ -103,18 +96,18 @@ fn refused(why: Refusal) -> Answer
 }
 
 // Repair of a partition with no malformed candidate: refused where no block is unowned.
-fn repair_in(img: &mut [u8], drive: usize, s: usize, e: usize, limit: usize) -> Answer
-    requires { ⌜ Ready (partitionOf drive s e) (now img) ⌝ }
-    ensures { λ a. ⌜ Answered limit (repairIn (partitionOf drive s e) (view (now (img .entry)))) (now (img .entry)) (now (img .exit)) a ⌝ }
+fn repair_in(img: &mut [u8], p: Partition, limit: usize) -> Answer
+    requires { ⌜ Ready p (now img) ⌝ }
+    ensures { λ a. ⌜ Answered limit (repairIn p (view (now (img .entry)))) (now (img .entry)) (now (img .exit)) a ⌝ }
 {
-    let first = unowned_from(img, drive, s, e, s + 1);
+    let first = unowned_from(img, p, p.s + 1);
     if first < 1 {
         return refused(Refusal::NothingFree);
     }
-    let t = mend(img, drive, s, e, first, limit);
+    let t = mend(img, p, first, limit);
     let left = t.left;
-    let x = blocks::pib(img, drive, s, first, t.last, t.count);
-    let left = image::step(img, left, image::saved(s, x));
+    let x = blocks::pib(img, p.drive, p.s, first, t.last, t.count);
+    let left = image::step(img, left, image::saved(p.s, x));
     Answer {
         made: image::used(limit, left),
         outcome: Outcome::Done(0, 0, 0),
@@ -129,10 +122,10 @@ pub fn repair(img: &mut [u8], drive: usize, s: usize, limit: usize) -> Answer
     match q {
         Part::Refused(why) => refused(why),
         Part::Good(e) => {
-            let x = inspect::lowest_malformed(img, drive, s, e);
+            let x = inspect::lowest_malformed(img, Partition { drive, s, e });
             match x {
                 Found::At(f) => refused(Refusal::Malformed(f)),
-                Found::Nothing => repair_in(img, drive, s, e, limit),
+                Found::Nothing => repair_in(img, Partition { drive, s, e }, limit),
             }
         }
     }

@@ -11,24 +11,25 @@ use base::Refusal;
 use volume::Outcome;
 use volume::PairAnswer;
 use volume::Part;
+use volume::Partition;
 
 // What show answers in the partition s to e: where the bytes of block r stand.
-pub fn show_in(img: &[u8], drive: usize, s: usize, e: usize, f: usize, r: usize) -> Outcome
-    requires { ⌜ Lies drive (now img) s e ⌝ }
-    ensures { λ a. ⌜ a ≡ showIn (partitionOf drive s e) (view (now (img .entry))) f r ⌝ }
+pub fn show_in(img: &[u8], p: Partition, f: usize, r: usize) -> Outcome
+    requires { ⌜ Lies p (now img) ⌝ }
+    ensures { λ a. ⌜ a ≡ showIn p (view (now (img .entry))) f r ⌝ }
 {
-    if !inspect::candidate(img, drive, s, e, f) {
+    if !inspect::candidate(img, p, f) {
         return Outcome::Refused(Refusal::NoCandidate);
     }
-    if !inspect::well_formed(img, drive, s, e, f) {
+    if !inspect::well_formed(img, p, f) {
         return Outcome::Refused(Refusal::Malformed(f));
     }
-    if 4160 <= r {
+    if inspect::REACH <= r {
         return Outcome::Refused(Refusal::BadBlock);
     }
-    let k = inspect::len(img, drive, s, e, f);
+    let k = inspect::len(img, f);
     if r < k {
-        let b = inspect::name(img, drive, s, e, f, r);
+        let b = inspect::name(img, p, f, r);
         Outcome::Done(528 * b + 16, 512, 0)
     } else {
         Outcome::Absent
@@ -41,7 +42,7 @@ pub fn show_answer(img: &[u8], drive: usize, s: usize, f: usize, r: usize) -> Ou
 {
     let p = inspect::partition(img, drive, s);
     match p {
-        Part::Good(e) => show_in(img, drive, s, e, f, r),
+        Part::Good(e) => show_in(img, Partition { drive, s, e }, f, r),
         Part::Refused(why) => Outcome::Refused(why),
     }
 }

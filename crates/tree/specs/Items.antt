@@ -11,7 +11,8 @@ use lib.Seq.{take-at, length-take-le, drop-drop, drop-append-add}
 use borrow.Author.Tests.{lt-ltb, le-ltb, eqb-true, ltb-true, ltb-false}
 use Rattle.base.specs.Tests.{pick}
 use Rattle.image.specs.Image.{view}
-use Rattle.volume.specs.Files.{Partition, isFile, len}
+use Rattle.volume.specs.Files.{isFile, len}
+use Rattle.volume.specs.declared.Partition.{Partition}
 use Rattle.directory.specs.Directory.{Selection, nameLength, nameAt, placeOf, metAt, Item, row, tenth, rowOf, itemsOf, entries, tree, walked, fitting, lay}
 use Rattle.directory.specs.Entries.{met-short, met-is-file}
 use Rattle.directory.specs.Paths.{file-in}
@@ -84,7 +85,7 @@ module _ (π : Partition) (l : List ℕ) (sel : Selection) where
   pub tree-sized : (d f : ℕ) → isFile π (view l) f ≡ true → Sized (π .e) (tree π l sel d f)
   unfolding tree
   tree-sized zero f h = (file-in π l f h, tt)
-  tree-sized (suc d) f h = entries-sized (tree π l sel d) (9 - d) f 0 (16 * len π (view l) f) (λ t k. tree-sized d t k)
+  tree-sized (suc d) f h = entries-sized (tree π l sel d) (9 - d) f 0 (16 * len (view l) f) (λ t k. tree-sized d t k)
 
 -- ---- one list of items after another
 

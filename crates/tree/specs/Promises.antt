@@ -9,7 +9,8 @@ use lib.ListN.{length}
 use Rattle.base.specs.Tests.{pick, both}
 use Rattle.base.specs.declared.Refusal.{Refusal}
 use Rattle.base.specs.declared.Refusal.the-variants.{BadBuffer}
-use Rattle.volume.specs.Files.{Partition, partitionOf}
+use Rattle.volume.specs.Files.{partitionOf}
+use Rattle.volume.specs.declared.Partition.{Partition}
 use Rattle.volume.specs.Answers.{partition}
 use Rattle.volume.specs.declared.Found.{Found}
 use Rattle.volume.specs.declared.Found.the-variants.{At, Nothing}

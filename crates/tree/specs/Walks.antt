@@ -11,7 +11,8 @@ use Rattle.base.specs.Tests.{pick}
 use Rattle.base.specs.declared.Refusal.the-variants.{TooDeep}
 use Rattle.image.specs.Image.{view}
 use Rattle.volume.specs.Steps.{more, none}
-use Rattle.volume.specs.Files.{Partition, len}
+use Rattle.volume.specs.Files.{len}
+use Rattle.volume.specs.declared.Partition.{Partition}
 use Rattle.volume.specs.declared.Outcome.the-variants.{Done, Refused}
 use Rattle.directory.specs.Directory.{Selection, nameAt, placeOf, metAt, Item, row, tenth, rowOf, itemsOf, entries, tree, walked, fitting, lay, walkedAs}
 use Rattle.directory.specs.Entries.{met-short}
@@ -128,11 +129,11 @@ module _ {m : ℕ} {on : Bool} {size : ℕ} {final : List ℕ} {w : Walk} (π : 
   walk-deep zero f s h = leaves-tenth s
   walk-deep (suc d) f s h = absurd (omega arith)
 
-  pub walk-starts : (d d′ level k f : ℕ) {n : ℕ} {b : List ℕ} → Leaves m on size final w (tree π l sel d f) n b → d ≡ suc d′ → level ≡ 9 - d′ → k ≡ 16 * len π (view l) f
+  pub walk-starts : (d d′ level k f : ℕ) {n : ℕ} {b : List ℕ} → Leaves m on size final w (tree π l sel d f) n b → d ≡ suc d′ → level ≡ 9 - d′ → k ≡ 16 * len (view l) f
       → Leaves m on size final w (entries π l sel (tree π l sel d′) level f 0 (k - 0)) n b
   unfolding tree
   walk-starts d d′ level k f s h v q =
-      let z : k - 0 ≡ 16 * len π (view l) f = omega arith in
+      let z : k - 0 ≡ 16 * len (view l) f = omega arith in
       rw (v, z) (rw (h, tree) at s)
 
   module _ (below : ℕ → List Item) (level f k j : ℕ) {n : ℕ} {b : List ℕ} (s : Leaves m on size final w (entries π l sel below level f j (k - j)) n b) where

@@ -15,6 +15,7 @@ use directory::entry;
 use volume::Found;
 use volume::Outcome;
 use volume::Part;
+use volume::Partition;
 
 mod row; // row.rt: a row
 mod walk; // walk.rt: the walk
@@ -28,27 +29,19 @@ fn most_rows(n: usize) -> usize
 }
 
 // The tree from the root.
-fn tree_from(
-    img: &[u8],
-    drive: usize,
-    s: usize,
-    e: usize,
-    rule: &[u8],
-    root: usize,
-    rows: &mut [u8],
-) -> Outcome
-    requires { ⌜ (Lies drive (now img) s e) × (isRule (now rule) ≡ true) × (isFile (partitionOf drive s e) (view (now img)) root ≡ true) ⌝ }
-    ensures { λ a. ⌜ (a ≡ treeRoot (partitionOf drive s e) (now (img .entry)) (now (rule .entry)) (length (now (rows .entry))) (At root) .outcome) × (now (rows .exit) ≡ lay (now (rows .entry)) 0 (treeRoot (partitionOf drive s e) (now (img .entry)) (now (rule .entry)) (length (now (rows .entry))) (At root) .rows)) ⌝ }
+fn tree_from(img: &[u8], p: Partition, rule: &[u8], root: usize, rows: &mut [u8]) -> Outcome
+    requires { ⌜ (Lies p (now img)) × (isRule (now rule) ≡ true) × (isFile p (view (now img)) root ≡ true) ⌝ }
+    ensures { λ a. ⌜ (a ≡ treeRoot p (now (img .entry)) (now (rule .entry)) (length (now (rows .entry))) (At root) .outcome) × (now (rows .exit) ≡ lay (now (rows .entry)) 0 (treeRoot p (now (img .entry)) (now (rule .entry)) (length (now (rows .entry))) (At root) .rows)) ⌝ }
 {
     let most = most_rows(rows.len());
-    let x = walk::walk(rows, img, drive, s, e, rule, 9, root, most, 0, false);
+    let x = walk::walk(rows, img, p, rule, 9, root, most, 0, false);
     match x {
         Walk::Going(n) => {
-            walk::walk(rows, img, drive, s, e, rule, 9, root, most, 0, true);
+            walk::walk(rows, img, p, rule, 9, root, most, 0, true);
             Outcome::Done(n, 0, 0)
         }
         Walk::Stopped(n) => {
-            walk::walk(rows, img, drive, s, e, rule, 9, root, most, 0, true);
+            walk::walk(rows, img, p, rule, 9, root, most, 0, true);
             Outcome::Done(n, 1, 0)
         }
         Walk::Deep(f) => Outcome::Refused(Refusal::TooDeep(f)),
@@ -56,9 +49,9 @@ fn tree_from(
 }
 
 // The tree in the partition s to e.
-fn tree_in(img: &[u8], drive: usize, s: usize, e: usize, rule: &[u8], rows: &mut [u8]) -> Outcome
-    requires { ⌜ Lies drive (now img) s e ⌝ }
-    ensures { λ a. ⌜ (a ≡ treeIn (partitionOf drive s e) (now (img .entry)) (now (rule .entry)) (length (now (rows .entry))) .outcome) × (now (rows .exit) ≡ lay (now (rows .entry)) 0 (treeIn (partitionOf drive s e) (now (img .entry)) (now (rule .entry)) (length (now (rows .entry))) .rows)) ⌝ }
+fn tree_in(img: &[u8], p: Partition, rule: &[u8], rows: &mut [u8]) -> Outcome
+    requires { ⌜ Lies p (now img) ⌝ }
+    ensures { λ a. ⌜ (a ≡ treeIn p (now (img .entry)) (now (rule .entry)) (length (now (rows .entry))) .outcome) × (now (rows .exit) ≡ lay (now (rows .entry)) 0 (treeIn p (now (img .entry)) (now (rule .entry)) (length (now (rows .entry))) .rows)) ⌝ }
 {
     if !entry::is_rule(rule) {
         return Outcome::Refused(Refusal::BadBuffer);
@@ -66,9 +59,9 @@ fn tree_in(img: &[u8], drive: usize, s: usize, e: usize, rule: &[u8], rows: &mut
     if rows.len() % 32 != 0 {
         return Outcome::Refused(Refusal::BadBuffer);
     }
-    let x = entry::root(img, drive, s, e);
+    let x = entry::root(img, p);
     match x {
-        Found::At(root) => tree_from(img, drive, s, e, rule, root, rows),
+        Found::At(root) => tree_from(img, p, rule, root, rows),
         Found::Nothing => Outcome::Refused(Refusal::NoCandidate),
     }
 }
@@ -79,7 +72,7 @@ pub fn tree(img: &[u8], drive: usize, s: usize, rule: &[u8], rows: &mut [u8]) ->
 {
     let p = inspect::partition(img, drive, s);
     match p {
-        Part::Good(e) => tree_in(img, drive, s, e, rule, rows),
+        Part::Good(e) => tree_in(img, Partition { drive, s, e }, rule, rows),
         Part::Refused(y) => Outcome::Refused(y),
     }
 }

@@ -8,6 +8,7 @@ ghost use Rattle.volume.specs.Files.{partitionOf, len};
 ghost use Rattle.inspect.specs.Parts.{Opened};
 ghost use Rattle.directory.specs.Directory.{nameLength, nameAt, placeOf, rowOf, lay};
 use directory::entry;
+use volume::Partition;
 
 // The bytes of src over those of the buffer from `at` on.
 fn put_at(buf: &mut [u8], at: usize, src: &[u8])
@@ -45,9 +46,7 @@ fn put_row(rows: &mut [u8], n: usize, t: usize, level: usize, what: usize, name:
 pub fn entry_row(
     rows: &mut [u8],
     img: &[u8],
-    drive: usize,
-    s: usize,
-    e: usize,
+    p: Partition,
     f: usize,
     j: usize,
     level: usize,
@@ -56,13 +55,13 @@ pub fn entry_row(
     n: usize,
     on: bool,
 )
-    requires { ⌜ (Opened (partitionOf drive s e) (now img) f) × (j < 16 * len (partitionOf drive s e) (view (now img)) f) × (nameLength (now img) (placeOf (partitionOf drive s e) (now img) f j) ≤ 25) × (level < 256) × (what < 256) × (32 * n + 32 ≤ length (now rows)) ⌝ }
-    ensures { λ _. ⌜ now (rows .exit) ≡ pick on (lay (now (rows .entry)) (32 * n) (rowOf t level what (nameAt (now (img .entry)) (placeOf (partitionOf drive s e) (now (img .entry)) f j)))) (now (rows .entry)) ⌝ }
+    requires { ⌜ (Opened p (now img) f) × (j < 16 * len (view (now img)) f) × (nameLength (now img) (placeOf p (now img) f j) ≤ 25) × (level < 256) × (what < 256) × (32 * n + 32 ≤ length (now rows)) ⌝ }
+    ensures { λ _. ⌜ now (rows .exit) ≡ pick on (lay (now (rows .entry)) (32 * n) (rowOf t level what (nameAt (now (img .entry)) (placeOf p (now (img .entry)) f j)))) (now (rows .entry)) ⌝ }
 {
     if !on {
         return;
     }
-    let b = inspect::name(img, drive, s, e, f, j / 16);
+    let b = inspect::name(img, p, f, j / 16);
     let at = 528 * b + 16 + entry::ENTRY * (j % 16);
     let from = at + entry::NAME;
     let end = from + image::wide(img[at + entry::LENGTH]);

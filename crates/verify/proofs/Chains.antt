@@ -10,7 +10,8 @@ use Rattle.base.specs.Tests.{pick, every, all, count, lastOf, headOf}
 use Rattle.image.specs.View.{View}
 use Rattle.base.specs.Laws.{both-left, both-right}
 use Rattle.volume.specs.Steps.{every-no}
-use Rattle.volume.specs.Files.{Partition, inside, within, chain, chained, free, freeHead, onceTest, freeSound}
+use Rattle.volume.specs.Files.{inside, within, chain, chained, free, freeHead, onceTest, freeSound}
+use Rattle.volume.specs.declared.Partition.{Partition}
 use Rattle.volume.specs.Reads.{inside-of}
 use Rattle.verify.specs.Walks.{walk, walked, named, freeAt}
 use Rattle.verify.specs.declared.Walk.{Walk}

@@ -9,11 +9,12 @@ use lib.Dec.{eqb}
 use lib.ListN.{length}
 use borrow.Author.Tests.{eq-eqb, ne-eqb, eqb-true, eqb-false}
 use Rattle.base.specs.Tests.{both, lastOf, headOf}
-use Rattle.drive.specs.Address.{pda, pdaBlock}
+use Rattle.drive.specs.Address.{pda, pdaBlock, orNil}
 use Rattle.image.specs.View.{View, pair}
 use Rattle.base.specs.Laws.{both-of, both-left, both-right}
 use Rattle.volume.specs.Words.{nextAt, previousAt}
-use Rattle.volume.specs.Files.{Partition, inside, orNil, owned, within, chain, chained}
+use Rattle.volume.specs.Files.{inside, owned, within, chain, chained}
+use Rattle.volume.specs.declared.Partition.{Partition}
 use Rattle.volume.specs.Reads.{inside-of}
 use Rattle.volume.specs.Steps.{more, none}
 use Rattle.verify.specs.Walks.{onward, stepAt, walk}
@@ -33,12 +34,12 @@ walk-starts π v b h = record { left = rw (sub-zero (π.e - π.s)); here = h; ba
 
 step-on-in : (π : Partition) (v : View) (before b c : ℕ) → stepAt π v before b ≡ On c → c ≤ π.e
 unfolding stepAt onward both
-step-on-in π v before b c h = go (owned π v b) refl (eqb (pair v b previousAt) (orNil π before)) refl (eqb x 0) refl (inside π (pdaBlock π.drive x)) refl (eqb (pda π.drive (pdaBlock π.drive x)) x) refl
+step-on-in π v before b c h = go (owned π v b) refl (eqb (pair v b previousAt) (orNil (π .drive) before)) refl (eqb x 0) refl (inside π (pdaBlock π.drive x)) refl (eqb (pda π.drive (pdaBlock π.drive x)) x) refl
   where
     x : ℕ
     x = pair v b nextAt
 
-    go : (t : Bool) → owned π v b ≡ t → (u : Bool) → eqb (pair v b previousAt) (orNil π before) ≡ u → (y : Bool) → eqb x 0 ≡ y
+    go : (t : Bool) → owned π v b ≡ t → (u : Bool) → eqb (pair v b previousAt) (orNil (π .drive) before) ≡ u → (y : Bool) → eqb x 0 ≡ y
         → (z : Bool) → inside π (pdaBlock π.drive x) ≡ z → (w : Bool) → eqb (pda π.drive (pdaBlock π.drive x)) x ≡ w → c ≤ π.e
     go true p u q y r z i w j = let k = rw (p, stepAt) at h in let z : _≡_ {A = ℕ} 0 1 = cc in absurd (omega arith)
     go false p false q y r z i w j = let k = rw (p, q, stepAt) at h in let z : _≡_ {A = ℕ} 0 1 = cc in absurd (omega arith)
@@ -92,11 +93,11 @@ module _ (π : Partition) (v : View) where
     unfolding noneOwned
     fine-owned h g = let q = both-left _ _ (g .unowned) in true≢false (sym q ∙ rw h)
 
-    pub fine-prev : Fine before (b ∷ l) → eqb (pair v b previousAt) (orNil π before) ≡ true
+    pub fine-prev : Fine before (b ∷ l) → eqb (pair v b previousAt) (orNil (π .drive) before) ≡ true
     unfolding chained
     fine-prev g = both-left _ _ (g .links)
 
-    pub fine-next : Fine before (b ∷ l) → pair v b nextAt ≡ orNil π (headOf 0 l)
+    pub fine-next : Fine before (b ∷ l) → pair v b nextAt ≡ orNil (π .drive) (headOf 0 l)
     unfolding chained
     fine-next g = eqb-true _ _ (both-left _ _ (both-right _ _ (g .links)))
 
@@ -108,7 +109,7 @@ module _ (π : Partition) (v : View) where
     unfolding within chained noneOwned
     fine-rest g = record { ins = both-right _ _ (g .ins); links = both-right _ _ (both-right _ _ (g .links)); unowned = both-right _ _ (g .unowned) }
 
-    pub fine-cons : inside π b ≡ true → owned π v b ≡ false → eqb (pair v b previousAt) (orNil π before) ≡ true → pair v b nextAt ≡ orNil π (headOf 0 l) → Fine b l → Fine before (b ∷ l)
+    pub fine-cons : inside π b ≡ true → owned π v b ≡ false → eqb (pair v b previousAt) (orNil (π .drive) before) ≡ true → pair v b nextAt ≡ orNil (π .drive) (headOf 0 l) → Fine b l → Fine before (b ∷ l)
     unfolding within chained noneOwned
     fine-cons i o p n g = record { ins = both-of i (g .ins); links = both-of p (both-of (eq-eqb _ _ n) (g .links)); unowned = both-of (not-yes _ o) (g .unowned) }
 
@@ -116,7 +117,7 @@ module _ (π : Partition) (v : View) where
   unfolding within chained noneOwned
   fine-nil before = record { ins = refl; links = refl; unowned = refl }
 
-  not-zero : (b : ℕ) → inside π b ≡ true → orNil π b ≡ pda π.drive b
+  not-zero : (b : ℕ) → inside π b ≡ true → orNil (π .drive) b ≡ pda π.drive b
   not-zero b i = rw (ne-eqb b 0 (λ z. omega (arith, inside-of π b i .0)))
 
   -- the chain from b, by its link
@@ -145,7 +146,7 @@ module _ (π : Partition) (v : View) where
       let i = fine-here b _ _ (fine-rest before b _ g) in
       both-of i (eq-eqb _ _ (sym (fine-next before b _ g ∙ not-zero _ i)))
 
-  extend : (before b n k : ℕ) {w : Walk} → inside π b ≡ true → owned π v b ≡ false → eqb (pair v b previousAt) (orNil π before) ≡ true
+  extend : (before b n k : ℕ) {w : Walk} → inside π b ≡ true → owned π v b ≡ false → eqb (pair v b previousAt) (orNil (π .drive) before) ≡ true
       → both (inside π (pdaBlock π.drive (pair v b nextAt))) (eqb (pda π.drive (pdaBlock π.drive (pair v b nextAt))) (pair v b nextAt)) ≡ true
       → Verdict b (n + 1) (chain π v (suc k) (pdaBlock π.drive (pair v b nextAt))) w
       → Verdict before n (b ∷ chain π v (suc k) (pdaBlock π.drive (pair v b nextAt))) w
@@ -159,17 +160,17 @@ module _ (π : Partition) (v : View) where
   unfolding chain
   chain-owned k before b h g = fine-owned before b _ h g
 
-  chain-prev : (k before b : ℕ) → Fine before (chain π v (suc k) b) → eqb (pair v b previousAt) (orNil π before) ≡ true
+  chain-prev : (k before b : ℕ) → Fine before (chain π v (suc k) b) → eqb (pair v b previousAt) (orNil (π .drive) before) ≡ true
   unfolding chain
   chain-prev k before b g = fine-prev before b _ g
 
   walk-step : (k before b n : ℕ) → inside π b ≡ true
-      → (owned π v b ≡ false → eqb (pair v b previousAt) (orNil π before) ≡ true → (pair v b nextAt ≡ 0 → ⊥)
+      → (owned π v b ≡ false → eqb (pair v b previousAt) (orNil (π .drive) before) ≡ true → (pair v b nextAt ≡ 0 → ⊥)
       → both (inside π (pdaBlock π.drive (pair v b nextAt))) (eqb (pda π.drive (pdaBlock π.drive (pair v b nextAt))) (pair v b nextAt)) ≡ true
       → Verdict before n (b ∷ chain π v k (pdaBlock π.drive (pair v b nextAt))) (walk π v k b (pdaBlock π.drive (pair v b nextAt)) (n + 1)))
       → Verdict before n (chain π v (suc k) b) (walk π v (suc k) before b n)
   unfolding walk stepAt onward headOf lastOf
-  walk-step k before b n ib rec = go (owned π v b) refl (eqb (pair v b previousAt) (orNil π before)) refl (eqb x 0) refl (both (inside π c) (eqb (pda π.drive c) x)) refl
+  walk-step k before b n ib rec = go (owned π v b) refl (eqb (pair v b previousAt) (orNil (π .drive) before)) refl (eqb x 0) refl (both (inside π c) (eqb (pda π.drive c) x)) refl
     where
       x : ℕ
       x = pair v b nextAt
@@ -177,7 +178,7 @@ module _ (π : Partition) (v : View) where
       c : ℕ
       c = pdaBlock π.drive x
 
-      go : (t : Bool) → owned π v b ≡ t → (u : Bool) → eqb (pair v b previousAt) (orNil π before) ≡ u → (y : Bool) → eqb x 0 ≡ y → (z : Bool) → both (inside π c) (eqb (pda π.drive c) x) ≡ z
+      go : (t : Bool) → owned π v b ≡ t → (u : Bool) → eqb (pair v b previousAt) (orNil (π .drive) before) ≡ u → (y : Bool) → eqb x 0 ≡ y → (z : Bool) → both (inside π c) (eqb (pda π.drive c) x) ≡ z
           → Verdict before n (chain π v (suc k) b) (walk π v (suc k) before b n)
       go true p u q y r z i = rw (p, walk, stepAt) (wrong (chain-owned k before b p))
       go false p false q y r z i = rw (p, q, walk, stepAt) (wrong (λ g. true≢false (sym (chain-prev k before b g) ∙ q)))

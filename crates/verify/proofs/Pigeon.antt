@@ -9,18 +9,19 @@ use lib.ListN.{length}
 use borrow.Author.Tests.{eq-eqb, ne-eqb, eqb-true}
 use Rattle.base.specs.Tests.{pick, all, count, occ, headOf}
 use Rattle.base.specs.Sums.{sum, sum-same, sum-equal, count-sum}
-use Rattle.drive.specs.Address.{pda, pdaBlock}
+use Rattle.drive.specs.Address.{pda, pdaBlock, orNil}
 use Rattle.drive.specs.Laws.{pda-back, pda-pos}
 use Rattle.image.specs.View.{View}
 use Rattle.base.specs.Laws.{both-of, both-left, both-right, all-at, all-of}
-use Rattle.volume.specs.Files.{Partition, onceTest, inside, orNil, owned, within}
+use Rattle.volume.specs.Files.{onceTest, inside, owned, within}
+use Rattle.volume.specs.declared.Partition.{Partition}
 use Rattle.volume.specs.Reads.{inside-of}
 use Rattle.frame.specs.FreeChain.{length-sum}
 use Rattle.verify.specs.Walks.{freeAt}
 use Rattle.verify.proofs.Free.{Fine, noneOwned, fine-next, fine-here, fine-rest}
 
 module _ (π : Partition) (v : View) where
-  some : (b : ℕ) → inside π b ≡ true → orNil π b ≡ pda π.drive b
+  some : (b : ℕ) → inside π b ≡ true → orNil (π .drive) b ≡ pda π.drive b
   some b i = rw (ne-eqb b 0 (λ z. omega (arith, inside-of π b i .0)))
 
   -- two fine lists from one block are equally long

@@ -8,7 +8,8 @@ use Rattle.base.specs.Tests.{pick, both, all, count}
 use Rattle.base.specs.Laws.{both-left, both-right, both-of, all-at}
 use Rattle.base.specs.Sums.{sum, count-both}
 use Rattle.image.specs.View.{View}
-use Rattle.volume.specs.Files.{Partition, blockAt, candidate, wellFormed, linked, isFile, len, size, fileTest, owned, freeSound, sound}
+use Rattle.volume.specs.Files.{blockAt, candidate, wellFormed, linked, isFile, len, size, fileTest, owned, freeSound, sound}
+use Rattle.volume.specs.declared.Partition.{Partition}
 use Rattle.volume.specs.Answers.{lowestMalformed, Unmarred, checkIn, tallied}
 use Rattle.volume.specs.Index.{wf-of}
 use Rattle.volume.specs.Closed.{sizeOf, size-closed}
@@ -56,12 +57,12 @@ module _ (π : Partition) (v : View) where
     unfolding standing
     stands-faulty c w = sym (rw (c, w, standing))
 
-    pub stands-file : {n m : ℕ} → candidate π v f ≡ true → wellFormed π v f ≡ true → linked π v f ≡ true → n ≡ len π v f → m ≡ sizeOf n → stands.File m ≡ standing π v f
+    pub stands-file : {n m : ℕ} → candidate π v f ≡ true → wellFormed π v f ≡ true → linked π v f ≡ true → n ≡ len v f → m ≡ sizeOf n → stands.File m ≡ standing π v f
     unfolding standing
     stands-file c w l hn hm = sym (rw (c, both-of w l, hm ∙ ap sizeOf hn ∙ sym (size-closed π v f w), standing))
 
     -- the blocks that a file's size is asked of
-    pub size-asks : {n : ℕ} → wellFormed π v f ≡ true → n ≡ len π v f → n ≤ 4160
+    pub size-asks : {n : ℕ} → wellFormed π v f ≡ true → n ≡ len v f → n ≤ 4160
     size-asks w h = omega (arith, h, wf-of π v f w .short)
 
   -- a file's size

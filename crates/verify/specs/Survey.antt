@@ -4,7 +4,8 @@ use Prim.Native.Nat.{ℕ, _-_}
 use Rattle.base.specs.Tests.{pick, both, all, count}
 use Rattle.base.specs.Sums.{sum}
 use Rattle.image.specs.View.{View}
-use Rattle.volume.specs.Files.{Partition, blockAt, candidate, wellFormed, linked, isFile, size, fileTest}
+use Rattle.volume.specs.Files.{blockAt, candidate, wellFormed, linked, isFile, size, fileTest}
+use Rattle.volume.specs.declared.Partition.{Partition}
 use Rattle.frame.specs.Needed.{needs}
 use Rattle.verify.specs.declared.Standing.{Standing}
 use Rattle.verify.specs.declared.Standing.the-variants as stands

@@ -4,10 +4,11 @@ use Prim.Native.Nat.{ℕ, zero, suc, _+_, _-_}
 use lib.Dec.{eqb}
 use Rattle.base.specs.Tests.{pick, both, every}
 use mathlib.Core.List.{[], _∷_}
-use Rattle.drive.specs.Address.{pda, pdaBlock}
+use Rattle.drive.specs.Address.{pda, pdaBlock, orNil}
 use Rattle.image.specs.View.{View, pair}
 use Rattle.volume.specs.Words.{nextAt, previousAt, freeHeadAt, freeTailAt, numberFreeAt}
-use Rattle.volume.specs.Files.{Partition, blockAt, inside, isLda, orNil, owned, freeHead}
+use Rattle.volume.specs.Files.{blockAt, inside, isLda, owned, freeHead}
+use Rattle.volume.specs.declared.Partition.{Partition}
 use Rattle.verify.specs.declared.Step.{Step}
 use Rattle.verify.specs.declared.Step.the-variants.{Bad, End, On}
 use Rattle.verify.specs.declared.Walk.{Walk}
@@ -20,7 +21,7 @@ onward π x = let c = pdaBlock π.drive x in pick (eqb x 0) End (pick (both (ins
 module _ (π : Partition) (v : View) where
   -- from block b, which follows `before`
   unfoldable pub stepAt : ℕ → ℕ → Step
-  stepAt before b = pick (owned π v b) Bad (pick (eqb (pair v b previousAt) (orNil π before)) (onward π (pair v b nextAt)) Bad)
+  stepAt before b = pick (owned π v b) Bad (pick (eqb (pair v b previousAt) (orNil (π .drive) before)) (onward π (pair v b nextAt)) Bad)
 
   -- at most k blocks from b on, with n passed: the block with the first wrong link, or how many blocks there are and the last
   unfoldable pub walk : ℕ → ℕ → ℕ → ℕ → Walk

@@ -5,7 +5,7 @@ ghost use Prim.Native.Nat.{_+_, _-_, _≤_, _<_};
 ghost use Rattle.base.specs.Tests.{all};
 ghost use Rattle.base.specs.Sums.{sum};
 ghost use Rattle.image.specs.Image.{view};
-ghost use Rattle.volume.specs.Files.{partitionOf, orNil, fileTest, freeSound, sound};
+ghost use Rattle.volume.specs.Files.{partitionOf, fileTest, freeSound, sound};
 ghost use Rattle.volume.specs.Answers.{Unmarred, checkIn, checked};
 ghost use Rattle.volume.specs.Reads.{Lies};
 ghost use Rattle.verify.specs.Walks.{onward, stepAt, walk, walked, named};
@@ -14,17 +14,12 @@ use base::Refusal;
 use volume::Found;
 use volume::Outcome;
 use volume::Part;
-
-// Words of a header and of a PIB.
-const NEXT: usize = 4;
-
-const PREVIOUS: usize = 6;
-
-const FREE_HEAD: usize = 8;
-
-const FREE_TAIL: usize = 10;
-
-const NUMBER_FREE: usize = 12;
+use volume::Partition;
+use volume::words::FREE_HEAD;
+use volume::words::FREE_TAIL;
+use volume::words::NEXT;
+use volume::words::NUMBER_FREE;
+use volume::words::PREVIOUS;
 
 // Where the free chain goes from a block: nowhere by a wrong link, to its end, or on to a block.
 pub enum Step {
@@ -52,30 +47,22 @@ pub enum Survey {
     Linked(usize, usize),
 }
 
-// The PDA of a block, or nil for 0.
-fn or_nil(drive: usize, s: usize, e: usize, b: usize) -> usize
-    requires { ⌜ b < 69552 ⌝ }
-    ensures { λ r. ⌜ r ≡ orNil (partitionOf drive s e) b ⌝ }
-{
-    if b == 0 { 0 } else { drive::pda(drive, b) }
-}
-
 // Where the next link x leads.
-fn onward(drive: usize, s: usize, e: usize, x: usize) -> Step
+fn onward(p: Partition, x: usize) -> Step
     requires { ⌜ x < 4294967296 ⌝ }
-    ensures { λ r. ⌜ r ≡ onward (partitionOf drive s e) x ⌝ }
+    ensures { λ r. ⌜ r ≡ onward p x ⌝ }
 {
     if x == 0 {
         return Step::End;
     }
-    let c = drive::pda_block(drive, x);
-    if c <= s {
+    let c = drive::pda_block(p.drive, x);
+    if c <= p.s {
         return Step::Bad;
     }
-    if e < c {
+    if p.e < c {
         return Step::Bad;
     }
-    if drive::pda(drive, c) == x {
+    if drive::pda(p.drive, c) == x {
         Step::On(c)
     } else {
         Step::Bad
@@ -83,26 +70,26 @@ fn onward(drive: usize, s: usize, e: usize, x: usize) -> Step
 }
 
 // Where the chain goes from block b, which follows `before`.
-fn step_at(img: &[u8], drive: usize, s: usize, e: usize, before: usize, b: usize) -> Step
-    requires { ⌜ (Lies drive (now img) s e) × (b ≤ e) × (before ≤ e) × (Unmarred (partitionOf drive s e) (view (now img))) ⌝ }
-    ensures { λ r. ⌜ r ≡ stepAt (partitionOf drive s e) (view (now (img .entry))) before b ⌝ }
+fn step_at(img: &[u8], p: Partition, before: usize, b: usize) -> Step
+    requires { ⌜ (Lies p (now img)) × (b ≤ p .e) × (before ≤ p .e) × (Unmarred p (view (now img))) ⌝ }
+    ensures { λ r. ⌜ r ≡ stepAt p (view (now (img .entry))) before b ⌝ }
 {
-    if links::owned(img, drive, s, e, b) {
+    if links::owned(img, p, b) {
         return Step::Bad;
     }
-    if image::pair(img, b, PREVIOUS) == or_nil(drive, s, e, before) {
-        onward(drive, s, e, image::pair(img, b, NEXT))
+    if image::pair(img, b, PREVIOUS) == drive::or_nil(p.drive, before) {
+        onward(p, image::pair(img, b, NEXT))
     } else {
         Step::Bad
     }
 }
 
 // The chain from `head` on: left with the block of the first wrong link, or at its end with the count.
-fn walk_from(img: &[u8], drive: usize, s: usize, e: usize, head: usize) -> Walk
-    requires { ⌜ (Lies drive (now img) s e) × (head ≤ e) × (Unmarred (partitionOf drive s e) (view (now img))) ⌝ }
-    ensures { λ r. ⌜ r ≡ walk (partitionOf drive s e) (view (now (img .entry))) (e - s) 0 head 0 ⌝ }
+fn walk_from(img: &[u8], p: Partition, head: usize) -> Walk
+    requires { ⌜ (Lies p (now img)) × (head ≤ p .e) × (Unmarred p (view (now img))) ⌝ }
+    ensures { λ r. ⌜ r ≡ walk p (view (now (img .entry))) (p .e - p .s) 0 head 0 ⌝ }
 {
-    let most = e - s;
+    let most = p.e - p.s;
     let mut before: usize = 0;
     let mut b = head;
     let mut n: usize = 0;
@@ -110,7 +97,7 @@ fn walk_from(img: &[u8], drive: usize, s: usize, e: usize, head: usize) -> Walk
         if n >= most {
             break Walk::Wrong(b);
         }
-        let x = step_at(img, drive, s, e, before, b);
+        let x = step_at(img, p, before, b);
         match x {
             Step::Bad => {
                 break Walk::Wrong(b);
@@ -128,80 +115,80 @@ fn walk_from(img: &[u8], drive: usize, s: usize, e: usize, head: usize) -> Walk
 }
 
 // The free chain from FreeHead on.
-fn walked(img: &[u8], drive: usize, s: usize, e: usize) -> Walk
-    requires { ⌜ (Lies drive (now img) s e) × (Unmarred (partitionOf drive s e) (view (now img))) ⌝ }
-    ensures { λ r. ⌜ r ≡ walked (partitionOf drive s e) (view (now (img .entry))) ⌝ }
+fn walked(img: &[u8], p: Partition) -> Walk
+    requires { ⌜ (Lies p (now img)) × (Unmarred p (view (now img))) ⌝ }
+    ensures { λ r. ⌜ r ≡ walked p (view (now (img .entry))) ⌝ }
 {
-    let head = drive::lda_block(drive, image::pair(img, s, FREE_HEAD));
-    if head <= s {
-        return Walk::Wrong(s);
+    let head = drive::lda_block(p.drive, image::pair(img, p.s, FREE_HEAD));
+    if head <= p.s {
+        return Walk::Wrong(p.s);
     }
-    if e < head {
-        return Walk::Wrong(s);
+    if p.e < head {
+        return Walk::Wrong(p.s);
     }
-    walk_from(img, drive, s, e, head)
+    walk_from(img, p, head)
 }
 
 // Whether a free chain of n blocks, which ends at `last`, is the one that the PIB has.
-fn chain_named(img: &[u8], drive: usize, s: usize, e: usize, n: usize, last: usize) -> bool
-    requires { ⌜ (Lies drive (now img) s e) × (last ≤ e) ⌝ }
-    ensures { λ r. ⌜ r ≡ named (partitionOf drive s e) (view (now (img .entry))) n last ⌝ }
+fn chain_named(img: &[u8], p: Partition, n: usize, last: usize) -> bool
+    requires { ⌜ (Lies p (now img)) × (last ≤ p .e) ⌝ }
+    ensures { λ r. ⌜ r ≡ named p (view (now (img .entry))) n last ⌝ }
 {
-    let x = image::pair(img, s, FREE_HEAD);
-    if x != drive::lda(drive, drive::lda_block(drive, x)) {
+    let x = image::pair(img, p.s, FREE_HEAD);
+    if x != drive::lda(p.drive, drive::lda_block(p.drive, x)) {
         return false;
     }
-    if image::pair(img, s, FREE_TAIL) != drive::lda(drive, last) {
+    if image::pair(img, p.s, FREE_TAIL) != drive::lda(p.drive, last) {
         return false;
     }
-    image::pair(img, s, NUMBER_FREE) == n
+    image::pair(img, p.s, NUMBER_FREE) == n
 }
 
 // Whether the free chain has each unowned block once and no other, and the PIB names it. The files have `owned` blocks.
-fn free_good(img: &[u8], drive: usize, s: usize, e: usize, owned: usize) -> bool
-    requires { ⌜ (Lies drive (now img) s e) × (Unmarred (partitionOf drive s e) (view (now img))) × (owned ≡ sum (e - s) (sizeAt (partitionOf drive s e) (view (now img)))) ⌝ }
-    ensures { λ r. ⌜ r ≡ freeSound (partitionOf drive s e) (view (now (img .entry))) ⌝ }
+fn free_good(img: &[u8], p: Partition, owned: usize) -> bool
+    requires { ⌜ (Lies p (now img)) × (Unmarred p (view (now img))) × (owned ≡ sum (p .e - p .s) (sizeAt p (view (now img)))) ⌝ }
+    ensures { λ r. ⌜ r ≡ freeSound p (view (now (img .entry))) ⌝ }
 {
-    let w = walked(img, drive, s, e);
+    let w = walked(img, p);
     match w {
         Walk::Wrong(_) => false,
         Walk::Free(n, last) => {
-            if n != e - s - owned {
+            if n != p.e - p.s - owned {
                 return false;
             }
-            chain_named(img, drive, s, e, n, last)
+            chain_named(img, p, n, last)
         }
     }
 }
 
 // How block f stands.
-fn stands(img: &[u8], drive: usize, s: usize, e: usize, f: usize) -> Standing
-    requires { ⌜ Lies drive (now img) s e ⌝ }
-    ensures { λ r. ⌜ r ≡ standing (partitionOf drive s e) (view (now (img .entry))) f ⌝ }
+fn stands(img: &[u8], p: Partition, f: usize) -> Standing
+    requires { ⌜ Lies p (now img) ⌝ }
+    ensures { λ r. ⌜ r ≡ standing p (view (now (img .entry))) f ⌝ }
 {
-    if !inspect::candidate(img, drive, s, e, f) {
+    if !inspect::candidate(img, p, f) {
         return Standing::Other;
     }
-    if !inspect::well_formed(img, drive, s, e, f) {
+    if !inspect::well_formed(img, p, f) {
         return Standing::Faulty;
     }
-    if links::linked(img, drive, s, e, f) {
-        Standing::File(inspect::size_of(inspect::len(img, drive, s, e, f)))
+    if links::linked(img, p, f) {
+        Standing::File(inspect::size_of(inspect::len(img, f)))
     } else {
         Standing::Faulty
     }
 }
 
 // One pass over the blocks.
-fn surveyed(img: &[u8], drive: usize, s: usize, e: usize) -> Survey
-    requires { ⌜ Lies drive (now img) s e ⌝ }
-    ensures { λ r. ⌜ r ≡ survey (partitionOf drive s e) (view (now (img .entry))) ⌝ }
+fn surveyed(img: &[u8], p: Partition) -> Survey
+    requires { ⌜ Lies p (now img) ⌝ }
+    ensures { λ r. ⌜ r ≡ survey p (view (now (img .entry))) ⌝ }
 {
-    let m = e - s;
+    let m = p.e - p.s;
     let mut files: usize = 0;
     let mut owned: usize = 0;
     for i in 0..m {
-        let x = stands(img, drive, s, e, s + i + 1);
+        let x = stands(img, p, p.s + i + 1);
         match x {
             Standing::Other => {
                 continue;
@@ -219,23 +206,23 @@ fn surveyed(img: &[u8], drive: usize, s: usize, e: usize) -> Survey
 }
 
 // Whether a partition is sound.
-pub fn is_sound(img: &[u8], drive: usize, s: usize, e: usize) -> bool
-    requires { ⌜ Lies drive (now img) s e ⌝ }
-    ensures { λ r. ⌜ r ≡ sound (partitionOf drive s e) (view (now (img .entry))) ⌝ }
+pub fn is_sound(img: &[u8], p: Partition) -> bool
+    requires { ⌜ Lies p (now img) ⌝ }
+    ensures { λ r. ⌜ r ≡ sound p (view (now (img .entry))) ⌝ }
 {
-    let x = surveyed(img, drive, s, e);
+    let x = surveyed(img, p);
     match x {
         Survey::Faulty => false,
-        Survey::Linked(_, owned) => free_good(img, drive, s, e, owned),
+        Survey::Linked(_, owned) => free_good(img, p, owned),
     }
 }
 
 // Why a partition with a faulty candidate is refused: a malformed one comes before links.
-fn faulty(img: &[u8], drive: usize, s: usize, e: usize) -> Outcome
-    requires { ⌜ (Lies drive (now img) s e) × (all (e - s) (fileTest (partitionOf drive s e) (view (now img))) ≡ false) ⌝ }
-    ensures { λ r. ⌜ r ≡ checkIn (partitionOf drive s e) (view (now (img .entry))) ⌝ }
+fn faulty(img: &[u8], p: Partition) -> Outcome
+    requires { ⌜ (Lies p (now img)) × (all (p .e - p .s) (fileTest p (view (now img))) ≡ false) ⌝ }
+    ensures { λ r. ⌜ r ≡ checkIn p (view (now (img .entry))) ⌝ }
 {
-    let x = inspect::lowest_malformed(img, drive, s, e);
+    let x = inspect::lowest_malformed(img, p);
     match x {
         Found::At(f) => Outcome::Refused(Refusal::Malformed(f)),
         Found::Nothing => Outcome::Refused(Refusal::Unsound),
@@ -243,16 +230,16 @@ fn faulty(img: &[u8], drive: usize, s: usize, e: usize) -> Outcome
 }
 
 // Check of a good partition.
-fn check_in(img: &[u8], drive: usize, s: usize, e: usize) -> Outcome
-    requires { ⌜ Lies drive (now img) s e ⌝ }
-    ensures { λ r. ⌜ r ≡ checkIn (partitionOf drive s e) (view (now (img .entry))) ⌝ }
+fn check_in(img: &[u8], p: Partition) -> Outcome
+    requires { ⌜ Lies p (now img) ⌝ }
+    ensures { λ r. ⌜ r ≡ checkIn p (view (now (img .entry))) ⌝ }
 {
-    let x = surveyed(img, drive, s, e);
+    let x = surveyed(img, p);
     match x {
-        Survey::Faulty => faulty(img, drive, s, e),
+        Survey::Faulty => faulty(img, p),
         Survey::Linked(files, owned) => {
-            if free_good(img, drive, s, e, owned) {
-                Outcome::Done(files, owned, e - s - owned)
+            if free_good(img, p, owned) {
+                Outcome::Done(files, owned, p.e - p.s - owned)
             } else {
                 Outcome::Refused(Refusal::Unsound)
             }
@@ -267,6 +254,6 @@ pub fn check(img: &[u8], drive: usize, s: usize) -> Outcome
     let p = inspect::partition(img, drive, s);
     match p {
         Part::Refused(why) => Outcome::Refused(why),
-        Part::Good(e) => check_in(img, drive, s, e),
+        Part::Good(e) => check_in(img, Partition { drive, s, e }),
     }
 }

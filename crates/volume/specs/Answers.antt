@@ -11,7 +11,8 @@ use Rattle.drive.specs.Address.{blocks, ldaBlock}
 use Rattle.image.specs.View.{View, pair}
 use Rattle.image.specs.Image.{view}
 use Rattle.volume.specs.Words.{partitionStartAt, partitionEndAt, dataOffset}
-use Rattle.volume.specs.Files.{Partition, partitionOf, blockAt, isLda, candidate, wellFormed, isFile, isMalformed, owned, sound, len, name}
+use Rattle.volume.specs.Files.{partitionOf, blockAt, isLda, candidate, wellFormed, isFile, isMalformed, owned, sound, len, name}
+use Rattle.volume.specs.declared.Partition.{Partition}
 use Rattle.volume.specs.Keys.{reach}
 use Rattle.volume.specs.declared.Found.{Found}
 use Rattle.volume.specs.declared.Found.the-variants.{At, Nothing}
@@ -108,7 +109,7 @@ ofFile π v f k = pick (candidate π v f) (pick (wellFormed π v f) k (Refused (
 
 unfoldable pub showIn : Partition → View → ℕ → ℕ → Outcome
 showIn π v f r =
-    ofFile π v f (pick (ltb r reach) (pick (ltb r (len π v f)) (Done (dataOffset (name π v f r)) 512 0) Absent) (Refused BadBlock))
+    ofFile π v f (pick (ltb r reach) (pick (ltb r (len v f)) (Done (dataOffset (name π v f r)) 512 0) Absent) (Refused BadBlock))
 
 unfoldable pub shown : ℕ → List ℕ → ℕ → ℕ → ℕ → Outcome
 shown d l s f r = inPartition (partition d l s) (λ e. showIn (partitionOf d s e) (view l) f r)
@@ -168,7 +169,7 @@ blockBytes π l f r zero = []
 blockBytes π l f r (suc k) = take 512 (drop (dataOffset (name π (view l) f r)) l) ++ blockBytes π l f (suc r) k
 
 unfoldable pub extractIn : Partition → View → ℕ → ℕ → Outcome
-extractIn π v f n = ofFile π v f (pick (eqb n (512 * len π v f)) (Done (len π v f) 0 0) (Refused BadBuffer))
+extractIn π v f n = ofFile π v f (pick (eqb n (512 * len v f)) (Done (len v f) 0 0) (Refused BadBuffer))
 
 unfoldable pub extracted : ℕ → List ℕ → ℕ → ℕ → ℕ → Outcome
 extracted d l s f n = inPartition (partition d l s) (λ e. extractIn (partitionOf d s e) (view l) f n)

@@ -14,7 +14,8 @@ use Rattle.image.specs.Image.{view}
 use Rattle.image.specs.Stores.{stored}
 use Rattle.image.specs.Saves.{words}
 use Rattle.volume.specs.Keys.{reach}
-use Rattle.volume.specs.Files.{Partition, partitionOf, candidate, len, sound, free, freeHead, unowned}
+use Rattle.volume.specs.Files.{partitionOf, candidate, len, sound, free, freeHead, unowned}
+use Rattle.volume.specs.declared.Partition.{Partition}
 use Rattle.volume.specs.Answers.{partition, lowestMalformed}
 use Rattle.volume.specs.Plans.{Plan, stores, createPlan, describePlan, destroyPlan, repairPlan}
 use Rattle.volume.specs.Writes.{needs, writePlan, replacePlan}
@@ -82,7 +83,7 @@ module _ (π : Partition) (v : View) where
   writeIn f r dat =
       pick (candidate π v f)
       (pick (ltb r reach)
-      (pick (ltb r (len π v f)) (finish 0 (replacePlan π v f r dat)) (pick (eqb r (len π v f)) (appendIn f r dat) (refuse BadBlock)))
+      (pick (ltb r (len v f)) (finish 0 (replacePlan π v f r dat)) (pick (eqb r (len v f)) (appendIn f r dat) (refuse BadBlock)))
       (refuse BadBlock))
       (refuse NoCandidate)
 

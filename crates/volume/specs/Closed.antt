@@ -13,7 +13,8 @@ use Rattle.image.specs.View.{View, pair}
 use Rattle.volume.specs.Words.{directAt, indirectAt, slotAt}
 use Rattle.volume.specs.Keys.{home, child, first, low}
 use Rattle.volume.specs.KeyLaws.{row-direct, row-data, row-ptr, asked-closed, closed-ptr, first-data, low-home, low-pos, child-first}
-use Rattle.volume.specs.Files.{Partition, len, spot, present, wellFormed, above, below, least, size}
+use Rattle.volume.specs.Files.{len, spot, present, wellFormed, above, below, least, size}
+use Rattle.volume.specs.declared.Partition.{Partition}
 use Rattle.volume.specs.Index.{wf-of, here-of, present-home, present-low, present-high, spot-step, entry-at, entry-fib}
 use Rattle.volume.specs.Order.{Next, Prev, next-one, prev-one, above-is, below-is, least-is, size-is, count-split}
 
@@ -196,29 +197,29 @@ module _ (π : Partition) (v : View) (f : ℕ) where
 
 -- what it has, its link order and how many blocks that are
 module _ (π : Partition) (v : View) (f : ℕ) (wf : wellFormed π v f ≡ true) where
-  short : len π v f ≤ 4160
+  short : len v f ≤ 4160
   short = wf-of π v f wf .short
 
-  pub present-closed : (k : ℕ) → present π v f k ≡ hasKey (len π v f) k
-  present-closed k = go (eqb k home) refl (present π v f k) refl (ltb (first k) (len π v f)) refl
+  pub present-closed : (k : ℕ) → present π v f k ≡ hasKey (len v f) k
+  present-closed k = go (eqb k home) refl (present π v f k) refl (ltb (first k) (len v f)) refl
     where
-      go : (t : Bool) → eqb k home ≡ t → (u : Bool) → present π v f k ≡ u → (w : Bool) → ltb (first k) (len π v f) ≡ w → u ≡ (t || w)
+      go : (t : Bool) → eqb k home ≡ t → (u : Bool) → present π v f k ≡ u → (w : Bool) → ltb (first k) (len v f) ≡ w → u ≡ (t || w)
       go true q u p w z = sym p ∙ ap (present π v f) (eqb-true k home q) ∙ present-home π v f
       go false q true p true z = refl
       go false q false p false z = refl
-      go false q true p false z = absurd (omega (arith, here-of π v f k (eqb-false k home q) p .asked, ltb-false (first k) (len π v f) z))
-      go false q false p true z = absurd (true≢false (sym (wf-of π v f wf .full k (ltb-true (first k) (len π v f) z)) ∙ p))
+      go false q true p false z = absurd (omega (arith, here-of π v f k (eqb-false k home q) p .asked, ltb-false (first k) (len v f) z))
+      go false q false p true z = absurd (true≢false (sym (wf-of π v f wf .full k (ltb-true (first k) (len v f) z)) ∙ p))
 
-  pub above-closed : (k : ℕ) → present π v f k ≡ true → above π v f k ≡ nextKey (len π v f) k
+  pub above-closed : (k : ℕ) → present π v f k ≡ true → above π v f k ≡ nextKey (len v f) k
   above-closed k h =
-      next-one (present π v f) k _ _ (above-is π v f wf k (present-high π v f k h)) (next-key (len π v f) short (present π v f) present-closed k h)
+      next-one (present π v f) k _ _ (above-is π v f wf k (present-high π v f k h)) (next-key (len v f) short (present π v f) present-closed k h)
 
-  pub below-closed : (k : ℕ) → present π v f k ≡ true → below π v f k ≡ prevKey (len π v f) k
+  pub below-closed : (k : ℕ) → present π v f k ≡ true → below π v f k ≡ prevKey (len v f) k
   below-closed k h =
-      prev-one (present π v f) k _ _ (below-is π v f wf k (present-low π v f k h)) (prev-key (len π v f) short (present π v f) present-closed k h)
+      prev-one (present π v f) k _ _ (below-is π v f wf k (present-low π v f k h)) (prev-key (len v f) short (present π v f) present-closed k h)
 
-  pub least-closed : least π v f ≡ low (len π v f)
-  least-closed = next-one (present π v f) 0 _ _ (least-is π v f wf) (first-key (len π v f) short (present π v f) present-closed)
+  pub least-closed : least π v f ≡ low (len v f)
+  least-closed = next-one (present π v f) 0 _ _ (least-is π v f wf) (first-key (len v f) short (present π v f) present-closed)
 
-  pub size-closed : size π v f ≡ sizeOf (len π v f)
-  size-closed = size-is π v f wf (292 + len π v f) (omega arith) ∙ count-keys (len π v f) short (present π v f) present-closed
+  pub size-closed : size π v f ≡ sizeOf (len v f)
+  size-closed = size-is π v f wf (292 + len v f) (omega arith) ∙ count-keys (len v f) short (present π v f) present-closed

@@ -6,17 +6,12 @@ use Prim.Native.Nat.{ℕ, zero, suc, _+_, _-_, _%_}
 use lib.Dec.{leb, ltb, eqb}
 use lib.ListN.{length}
 use Rattle.base.specs.Tests.{pick, both, every, all, count, those, occ, lastOf, headOf}
-use Rattle.drive.specs.Address.{pda, pdaBlock, lda, ldaBlock}
+use Rattle.drive.specs.Address.{pda, pdaBlock, lda, ldaBlock, orNil}
 use Rattle.image.specs.View.{View, pair}
 use Rattle.volume.specs.Words.{serialAt, relativeAt, nextAt, previousAt, slotAt, inUseAt, lastBlockAt, lastAddressAt, lowNumberAt, lowAddressAt, freeHeadAt, freeTailAt, numberFreeAt, fibNumber}
 use Rattle.volume.specs.Search.{seek, down}
+use Rattle.volume.specs.declared.Partition.{Partition}
 use Rattle.volume.specs.Keys.{home, keyOf, number, reach, up, slot, child, first, low, span}
-
--- a partition: its drive, its first block, which is the PIB, and its last
-pub record Partition : Type 0 where
-  pub drive : ℕ
-  pub s : ℕ
-  pub e : ℕ
 
 abbrev pub partitionOf : ℕ → ℕ → ℕ → Partition
 partitionOf d s e = record { drive = d; s = s; e = e }
@@ -41,18 +36,13 @@ isLda d x b = eqb x (lda d b)
 unfoldable pub address : ℕ → ℕ → ℕ → ℕ
 address d old b = pick (isLda d old b) old (lda d b)
 
--- the PDA of a block, or nil for 0
-abbrev pub orNil : Partition → ℕ → ℕ
-orNil π b = pick (eqb b 0) 0 (pda (π .drive) b)
-
-module _ (π : Partition) (v : View) where
-  -- the serial in a block's header
+module _ (v : View) where
+  -- the serial in a block's header, and the key that its relative number is
   abbrev pub serial : ℕ → ℕ
   serial b = pair v b serialAt
 
-  -- a candidate: a block of s+1..e whose serial is its own PDA and whose relative number is -1
-  unfoldable pub candidate : ℕ → Bool
-  candidate f = every (inside π f ∷ eqb (serial f) (pda (π .drive) f) ∷ eqb (v f relativeAt) fibNumber ∷ [])
+  unfoldable pub key : ℕ → ℕ
+  key b = keyOf (v b relativeAt)
 
   -- L + 1, from 0 to 65535, and the key of block L, or of the FIB if L is -1
   unfoldable pub len : ℕ → ℕ
@@ -60,6 +50,11 @@ module _ (π : Partition) (v : View) where
 
   abbrev pub end : ℕ → ℕ
   end f = home + len f
+
+module _ (π : Partition) (v : View) where
+  -- a candidate: a block of s+1..e whose serial is its own PDA and whose relative number is -1
+  unfoldable pub candidate : ℕ → Bool
+  candidate f = every (inside π f ∷ eqb (serial v f) (pda (π .drive) f) ∷ eqb (v f relativeAt) fibNumber ∷ [])
 
   -- ---- the index
 
@@ -72,7 +67,7 @@ module _ (π : Partition) (v : View) where
   unfoldable pub presentIn : ℕ → ℕ → ℕ → Bool
   presentIn zero f k = true
   presentIn (suc n) f k =
-      pick (eqb k home) true (both (ltb (first k) (len f)) (both (presentIn n f (up k)) (not (eqb (pair v (spotIn n f (up k)) (slot k)) 0))))
+      pick (eqb k home) true (both (ltb (first k) (len v f)) (both (presentIn n f (up k)) (not (eqb (pair v (spotIn n f (up k)) (slot k)) 0))))
 
   unfoldable pub spot : ℕ → ℕ → ℕ
   spot = spotIn 3
@@ -90,10 +85,10 @@ module _ (π : Partition) (v : View) where
 
   -- the least present key, and how many there are
   unfoldable pub least : ℕ → ℕ
-  least f = seek (span (len f)) (low (len f)) (present f)
+  least f = seek (span (len v f)) (low (len v f)) (present f)
 
   unfoldable pub size : ℕ → ℕ
-  size f = let n = len f in count (span n) (λ i. present f (low n + i))
+  size f = let n = len v f in count (span n) (λ i. present f (low n + i))
 
   -- blocks in use, last negative number and its address
   unfoldable pub tally : ℕ → Bool
@@ -109,7 +104,7 @@ module _ (π : Partition) (v : View) where
   unfoldable pub named : ℕ → ℕ → Bool
   named f k =
       let b = spot f k in
-      every (isLda (π .drive) (entry f k) b ∷ inside π b ∷ eqb (serial b) (pda (π .drive) f) ∷ eqb (v b relativeAt) (number k) ∷ [])
+      every (isLda (π .drive) (entry f k) b ∷ inside π b ∷ eqb (serial v b) (pda (π .drive) f) ∷ eqb (v b relativeAt) (number k) ∷ [])
 
   -- a present key is the FIB's, or named well
   abbrev pub keyTest : ℕ → ℕ → Bool
@@ -117,27 +112,27 @@ module _ (π : Partition) (v : View) where
 
   -- a key that L asks for is present
   abbrev pub fullTest : ℕ → ℕ → Bool
-  fullTest f k = not (ltb (first k) (len f)) || present f k
+  fullTest f k = not (ltb (first k) (len v f)) || present f k
 
   -- an entry of the FIB is asked for by L, or nil
   abbrev pub nilTest : ℕ → ℕ → Bool
-  nilTest f k = eqb k home || (ltb (first k) (len f) || eqb (pair v f (slot k)) 0)
+  nilTest f k = eqb k home || (ltb (first k) (len v f) || eqb (pair v f (slot k)) 0)
 
   -- every key that is present is named well
   unfoldable pub indexed : ℕ → Bool
-  indexed f = let n = len f in all (span n) (λ i. keyTest f (low n + i))
+  indexed f = let n = len v f in all (span n) (λ i. keyTest f (low n + i))
 
   -- every key that L asks for is present
   unfoldable pub gapless : ℕ → Bool
-  gapless f = let n = len f in all (span n) (λ i. fullTest f (low n + i))
+  gapless f = let n = len v f in all (span n) (λ i. fullTest f (low n + i))
 
   -- a candidate is a file if it is well formed
   unfoldable pub wellFormed : ℕ → Bool
   wellFormed f =
-      every (leb (len f) reach
+      every (leb (len v f) reach
       ∷ indexed f
       ∷ all 99 (λ i. nilTest f (257 + i))
-      ∷ isLda (π .drive) (pair v f lastAddressAt) (spot f (end f))
+      ∷ isLda (π .drive) (pair v f lastAddressAt) (spot f (end v f))
       ∷ gapless f
       ∷ tally f
       ∷ [])
@@ -151,19 +146,16 @@ module _ (π : Partition) (v : View) where
 
   -- ---- owned
 
-  -- a block's file and its key, as its header has them
+  -- a block's file, as its header has it
   abbrev pub fileOf : ℕ → ℕ
-  fileOf b = pdaBlock (π .drive) (serial b)
-
-  unfoldable pub key : ℕ → ℕ
-  key b = keyOf (v b relativeAt)
+  fileOf b = pdaBlock (π .drive) (serial v b)
 
   -- a file's FIB or a block that its index names: its header leads to a file and a key, and they to this very block
   unfoldable pub owned : ℕ → Bool
   owned b =
       let f = fileOf b in
-      let k = key b in
-      both (eqb (serial b) (pda (π .drive) f)) (both (isFile f) (both (present f k) (eqb (spot f k) b)))
+      let k = key v b in
+      both (eqb (serial v b) (pda (π .drive) f)) (both (isFile f) (both (present f k) (eqb (spot f k) b)))
 
   -- the files, and the blocks that are not owned, in ascending order
   unfoldable pub files : List ℕ
@@ -176,10 +168,10 @@ module _ (π : Partition) (v : View) where
 
   -- the next present key above k and below k, or 0
   unfoldable pub above : ℕ → ℕ → ℕ
-  above f k = seek (end f - k) (suc k) (present f)
+  above f k = seek (end v f - k) (suc k) (present f)
 
   unfoldable pub below : ℕ → ℕ → ℕ
-  below f k = down (low (len f)) (k - low (len f)) (present f)
+  below f k = down (low (len v f)) (k - low (len v f)) (present f)
 
   -- the link to key k: the PDA of its block, nil for none
   unfoldable pub link : ℕ → ℕ → ℕ
@@ -187,7 +179,7 @@ module _ (π : Partition) (v : View) where
 
   -- entry i of pointer block k is asked for by L, or nil
   abbrev pub tailTest : ℕ → ℕ → ℕ → Bool
-  tailTest f k i = ltb (first (child k (slotAt i))) (len f) || eqb (pair v (spot f k) (slotAt i)) 0
+  tailTest f k i = ltb (first (child k (slotAt i))) (len v f) || eqb (pair v (spot f k) (slotAt i)) 0
 
   -- a present key's block is linked to its neighbours, and a pointer block's unused entries are nil
   abbrev pub linkTest : ℕ → ℕ → Bool
@@ -198,7 +190,7 @@ module _ (π : Partition) (v : View) where
       ∷ [])
 
   unfoldable pub linked : ℕ → Bool
-  linked f = let n = len f in all (span n) (λ i. linkTest f (low n + i))
+  linked f = let n = len v f in all (span n) (λ i. linkTest f (low n + i))
 
   -- ---- the free chain
 
@@ -216,7 +208,7 @@ module _ (π : Partition) (v : View) where
   -- consecutive blocks of a list are linked both ways, nil at the end; `before` is the block behind the first, or 0
   unfoldable pub chained : ℕ → List ℕ → Bool
   chained before [] = true
-  chained before (b ∷ bs) = both (eqb (pair v b previousAt) (orNil π before)) (both (eqb (pair v b nextAt) (orNil π (headOf 0 bs))) (chained b bs))
+  chained before (b ∷ bs) = both (eqb (pair v b previousAt) (orNil (π .drive) before)) (both (eqb (pair v b nextAt) (orNil (π .drive) (headOf 0 bs))) (chained b bs))
 
   -- ---- sound
 

@@ -15,7 +15,8 @@ use Rattle.volume.specs.Order.{least-present}
 use Rattle.volume.specs.Search.{seek, down, seek-same, down-same, count-same}
 use Rattle.volume.specs.Keys.{home, keyOf, number, reach, up, slot, first, low, span}
 use Rattle.volume.specs.KeyLaws.{key-ind}
-use Rattle.volume.specs.Files.{Partition, isLda, candidate, len, spot, present, entry, wellFormed, isFile, fileOf, key, owned, files, unowned, above, below, least, size, tally, link}
+use Rattle.volume.specs.Files.{isLda, candidate, len, spot, present, entry, wellFormed, isFile, fileOf, key, owned, files, unowned, above, below, least, size, tally, link}
+use Rattle.volume.specs.declared.Partition.{Partition}
 use Rattle.volume.specs.Index.{here-of, of-here, spot-home, spot-step, present-home, Member, WF, wf-of, of-wf, own, owned-by, file-candidate}
 
 -- two records with the same serial and relative number
@@ -45,7 +46,7 @@ module _ (π : Partition) (v v′ : View) (f : ℕ) where
     pub lowest : v f lowNumberAt ≡ v′ f lowNumberAt
     pub lowAt : pair v f lowAddressAt ≡ pair v′ f lowAddressAt
     pub heads : (k : ℕ) → present π v f k ≡ true → SameHead (v (spot π v f k)) (v′ (spot π v f k))
-    pub entries : (k : ℕ) → k ≢ home → present π v f (up k) ≡ true → (first k < len π v f) ⊎ (up k ≡ home)
+    pub entries : (k : ℕ) → k ≢ home → present π v f (up k) ≡ true → (first k < len v f) ⊎ (up k ≡ home)
         → pair v (spot π v f (up k)) (slot k) ≡ pair v′ (spot π v f (up k)) (slot k)
 
   -- its form, its description and its bytes
@@ -56,7 +57,7 @@ module _ (π : Partition) (v v′ : View) (f : ℕ) where
     pub bytes : (k : ℕ) → home < k → present π v f k ≡ true → (w : ℕ) → 8 ≤ w → v (spot π v f k) w ≡ v′ (spot π v f k) w
 
   module _ (s : Shape) where
-    pub kept-len : len π v f ≡ len π v′ f
+    pub kept-len : len v f ≡ len v′ f
     unfolding len
     kept-len = ap (λ (x : ℕ). (x + 1) % 65536) (s .length)
 
@@ -65,7 +66,7 @@ module _ (π : Partition) (v v′ : View) (f : ℕ) where
       pub pre : present π v f k ≡ present π v′ f k
       pub at : present π v f k ≡ true → spot π v f k ≡ spot π v′ f k
 
-    entry-same : (k : ℕ) → k ≢ home → present π v f (up k) ≡ true → (first k < len π v f) ⊎ (up k ≡ home) → spot π v f (up k) ≡ spot π v′ f (up k)
+    entry-same : (k : ℕ) → k ≢ home → present π v f (up k) ≡ true → (first k < len v f) ⊎ (up k ≡ home) → spot π v f (up k) ≡ spot π v′ f (up k)
         → entry π v f k ≡ entry π v′ f k
     unfolding entry
     entry-same k n g a q = s .entries k n g a ∙ ap (λ (b : ℕ). pair v′ b (slot k)) q
@@ -91,7 +92,7 @@ module _ (π : Partition) (v v′ : View) (f : ℕ) where
           at = λ p. let h = here-of π v f k n p in spot-step π v f k n ∙ ap (ldaBlock (π .drive)) (same (h .held) (inl (h .asked))) ∙ sym (spot-step π v′ f k n);
         }
           where
-            same : present π v f (up k) ≡ true → (first k < len π v f) ⊎ (up k ≡ home) → entry π v f k ≡ entry π v′ f k
+            same : present π v f (up k) ≡ true → (first k < len v f) ⊎ (up k ≡ home) → entry π v f k ≡ entry π v′ f k
             same g a = entry-same k n g a (ih .at g)
 
     pub kept-present : (k : ℕ) → present π v f k ≡ present π v′ f k
@@ -118,7 +119,7 @@ module _ (π : Partition) (v v′ : View) (f : ℕ) where
 
     pub kept-size : size π v f ≡ size π v′ f
     unfolding size
-    kept-size = count-same _ _ _ (λ i. kept-present (low (len π v f) + i)) ∙ ap (λ (n : ℕ). count (span n) (λ i. present π v′ f (low n + i))) kept-len
+    kept-size = count-same _ _ _ (λ i. kept-present (low (len v f) + i)) ∙ ap (λ (n : ℕ). count (span n) (λ i. present π v′ f (low n + i))) kept-len
 
     pub kept-link : (k : ℕ) → (k ≢ 0 → present π v f k ≡ true) → link π v f k ≡ link π v′ f k
     unfolding link
@@ -143,8 +144,8 @@ module _ (π : Partition) (v v′ : View) (f : ℕ) where
           let m = w .mine k n g in
           subst (λ (b : ℕ). Member π v′ f b k) (kept-spot k g) (record { ins = m .ins; ser = sym (same-serial (s .heads k g)) ∙ m .ser; num = sym (s .heads k g .rel) ∙ m .num });
       nil = λ k n q l. sym (fib-entry k n q) ∙ w .nil k n q (subst (λ (x : ℕ). x ≤ first k) (sym kept-len) l);
-      ends = subst (λ (n : ℕ). present π v′ f (home + n) ≡ true) kept-len (sym (kept-present (home + len π v f)) ∙ w .ends);
-      last = ap₂ (isLda (π .drive)) (sym (s .last)) (ap (λ (n : ℕ). spot π v′ f (home + n)) (sym kept-len) ∙ sym (kept-spot (home + len π v f) (w .ends))) ∙ w .last;
+      ends = subst (λ (n : ℕ). present π v′ f (home + n) ≡ true) kept-len (sym (kept-present (home + len v f)) ∙ w .ends);
+      last = ap₂ (isLda (π .drive)) (sym (s .last)) (ap (λ (n : ℕ). spot π v′ f (home + n)) (sym kept-len) ∙ sym (kept-spot (home + len v f) (w .ends))) ∙ w .last;
       full = λ k l. sym (kept-present k) ∙ w .full k (subst (λ (n : ℕ). first k < n) (sym kept-len) l);
       tallied = kept-tally h (w .tallied);
     })
@@ -216,19 +217,19 @@ module _ (π : Partition) where
     pub agree-head : (b : ℕ) → owned π v b ≡ true → SameHead (v b) (v′ b)
     agree-head b h =
         let o = own π v b h in
-        subst (λ (x : ℕ). SameHead (v x) (v′ x)) (o .back) (a .shape (fileOf π v b) (file-candidate π v _ (o .file)) .heads (key π v b) (o .here))
+        subst (λ (x : ℕ). SameHead (v x) (v′ x)) (o .back) (a .shape (fileOf π v b) (file-candidate π v _ (o .file)) .heads (key v b) (o .here))
 
     pub agree-fileOf : (b : ℕ) → owned π v b ≡ true → fileOf π v b ≡ fileOf π v′ b
     agree-fileOf b h = ap (pdaBlock (π .drive)) (same-serial (agree-head b h))
 
-    pub agree-key : (b : ℕ) → owned π v b ≡ true → key π v b ≡ key π v′ b
+    pub agree-key : (b : ℕ) → owned π v b ≡ true → key v b ≡ key v′ b
     unfolding key
     agree-key b h = ap keyOf (agree-head b h .rel)
 
     pub agree-owns : (b : ℕ) → owned π v b ≡ true → owned π v′ b ≡ true
     agree-owns b h =
         let f = fileOf π v b in
-        let k = key π v b in
+        let k = key v b in
         let o = own π v b h in
         let s = a .shape f (file-candidate π v f (o .file)) in
         owned-by π v′ b f k (sym (agree-fileOf b h)) (sym (agree-key b h)) (record {

@@ -15,7 +15,8 @@ use Rattle.image.specs.View.{View, pair}
 use Rattle.volume.specs.Words.{serialAt, relativeAt, lastAddressAt}
 use Rattle.volume.specs.Keys.{home, keyOf, number, reach, up, slot, first, low, span}
 use Rattle.volume.specs.KeyLaws.{level, up-level, level-few, level-zero, low-home, low-pos, asked-low, asked-high, last-asked, span-end, fib-keys, near-keys, key-number, number-home, number-fib}
-use Rattle.volume.specs.Files.{Partition, inside, isLda, serial, candidate, len, spotIn, presentIn, spot, present, entry, named, keyTest, nilTest, indexed, fullTest, gapless, tally, wellFormed, isFile, fileOf, key, owned}
+use Rattle.volume.specs.Files.{inside, isLda, serial, candidate, len, spotIn, presentIn, spot, present, entry, named, keyTest, nilTest, indexed, fullTest, gapless, tally, wellFormed, isFile, fileOf, key, owned}
+use Rattle.volume.specs.declared.Partition.{Partition}
 
 -- a test at every key that n blocks can ask for
 module _ (n : ℕ) (P : ℕ → Bool) where
@@ -63,11 +64,11 @@ module _ (π : Partition) (v : View) (f : ℕ) where
 
   present-more : (n k : ℕ) → level k ≤ n → presentIn π v (suc n) f k ≡ presentIn π v n f k
   unfolding presentIn spotIn
-  present-more zero k l = ap (λ (t : Bool). pick t true (both (ltb (first k) (len π v f)) (both true (not (eqb (pair v f (slot k)) 0))))) (eq-eqb k home (level-zero k l))
+  present-more zero k l = ap (λ (t : Bool). pick t true (both (ltb (first k) (len v f)) (both true (not (eqb (pair v f (slot k)) 0))))) (eq-eqb k home (level-zero k l))
   present-more (suc n) k l =
       pick-same (eqb k home) (λ _. refl)
       (λ q. let m : level (up k) ≤ n = omega (arith, up-level k (eqb-false k home q)) in
-      ap₂ (λ (t : Bool) (b : ℕ). both (ltb (first k) (len π v f)) (both t (not (eqb (pair v b (slot k)) 0)))) (present-more n (up k) m) (spot-more n (up k) m))
+      ap₂ (λ (t : Bool) (b : ℕ). both (ltb (first k) (len v f)) (both t (not (eqb (pair v b (slot k)) 0)))) (present-more n (up k) m) (spot-more n (up k) m))
 
   pub spot-home : spot π v f home ≡ f
   unfolding spot spotIn
@@ -89,15 +90,15 @@ module _ (π : Partition) (v : View) (f : ℕ) where
 
   -- a key is present: L asks for it, its holder is, and its entry is not nil
   pub record Here (k : ℕ) : Type 0 where
-    pub asked : first k < len π v f
+    pub asked : first k < len v f
     pub held : present π v f (up k) ≡ true
     pub said : entry π v f k ≢ 0
 
-  present-step : (k : ℕ) → k ≢ home → present π v f k ≡ both (ltb (first k) (len π v f)) (both (present π v f (up k)) (not (eqb (entry π v f k) 0)))
+  present-step : (k : ℕ) → k ≢ home → present π v f k ≡ both (ltb (first k) (len v f)) (both (present π v f (up k)) (not (eqb (entry π v f k) 0)))
   unfolding present entry spot presentIn
   present-step k n =
-      ap (λ (t : Bool). pick t true (both (ltb (first k) (len π v f)) (both (presentIn π v 2 f (up k)) (not (eqb (pair v (spotIn π v 2 f (up k)) (slot k)) 0))))) (ne-eqb k home n)
-      ∙ ap₂ (λ (t : Bool) (b : ℕ). both (ltb (first k) (len π v f)) (both t (not (eqb (pair v b (slot k)) 0))))
+      ap (λ (t : Bool). pick t true (both (ltb (first k) (len v f)) (both (presentIn π v 2 f (up k)) (not (eqb (pair v (spotIn π v 2 f (up k)) (slot k)) 0))))) (ne-eqb k home n)
+      ∙ ap₂ (λ (t : Bool) (b : ℕ). both (ltb (first k) (len v f)) (both t (not (eqb (pair v b (slot k)) 0))))
       (sym (present-more 2 (up k) (holder-level k n))) (sym (spot-more 2 (up k) (holder-level k n)))
 
   pub here-of : (k : ℕ) → k ≢ home → present π v f k ≡ true → Here k
@@ -110,19 +111,19 @@ module _ (π : Partition) (v : View) (f : ℕ) where
   of-here k n h = present-step k n ∙ both-of (lt-ltb _ _ (h .asked)) (both-of (h .held) (not-of _ (ne-eqb _ _ (h .said))))
 
   -- present keys lie between the least that L asks for and the last block
-  pub present-low : (k : ℕ) → present π v f k ≡ true → low (len π v f) ≤ k
+  pub present-low : (k : ℕ) → present π v f k ≡ true → low (len v f) ≤ k
   present-low k h = go (eqb k home) refl
     where
-      go : (t : Bool) → eqb k home ≡ t → low (len π v f) ≤ k
-      go true q = omega (arith, eqb-true k home q, low-home (len π v f))
-      go false q = asked-low k (len π v f) (here-of k (eqb-false k home q) h .asked)
+      go : (t : Bool) → eqb k home ≡ t → low (len v f) ≤ k
+      go true q = omega (arith, eqb-true k home q, low-home (len v f))
+      go false q = asked-low k (len v f) (here-of k (eqb-false k home q) h .asked)
 
-  pub present-high : (k : ℕ) → present π v f k ≡ true → k ≤ home + len π v f
+  pub present-high : (k : ℕ) → present π v f k ≡ true → k ≤ home + len v f
   present-high k h = go (eqb k home) refl
     where
-      go : (t : Bool) → eqb k home ≡ t → k ≤ home + len π v f
+      go : (t : Bool) → eqb k home ≡ t → k ≤ home + len v f
       go true q = omega (arith, eqb-true k home q)
-      go false q = asked-high k (len π v f) (here-of k (eqb-false k home q) h .asked)
+      go false q = asked-high k (len v f) (here-of k (eqb-false k home q) h .asked)
 
   -- ---- well formed
 
@@ -134,19 +135,19 @@ module _ (π : Partition) (v : View) (f : ℕ) where
 
   -- well formed, rule by rule
   pub record WF : Type 0 where
-    pub short : len π v f ≤ reach
+    pub short : len v f ≤ reach
     pub good : (k : ℕ) → k ≢ home → present π v f k ≡ true → isLda (π .drive) (entry π v f k) (spot π v f k) ≡ true
     pub mine : (k : ℕ) → k ≢ home → present π v f k ≡ true → Member (spot π v f k) k
-    pub nil : (k : ℕ) → k ≢ home → up k ≡ home → len π v f ≤ first k → pair v f (slot k) ≡ 0
-    pub ends : present π v f (home + len π v f) ≡ true
-    pub last : isLda (π .drive) (pair v f lastAddressAt) (spot π v f (home + len π v f)) ≡ true
-    pub full : (k : ℕ) → first k < len π v f → present π v f k ≡ true
+    pub nil : (k : ℕ) → k ≢ home → up k ≡ home → len v f ≤ first k → pair v f (slot k) ≡ 0
+    pub ends : present π v f (home + len v f) ≡ true
+    pub last : isLda (π .drive) (pair v f lastAddressAt) (spot π v f (home + len v f)) ≡ true
+    pub full : (k : ℕ) → first k < len v f → present π v f k ≡ true
     pub tallied : tally π v f ≡ true
 
   key-test : wellFormed π v f ≡ true → (k : ℕ) → k ≢ home → present π v f k ≡ true → named π v f k ≡ true
   unfolding wellFormed indexed
   key-test h k n p =
-      or-at _ _ (unless-at _ _ (span-at (len π v f) (keyTest π v f) (every-at _ h 1) k (present-low k p) (present-high k p)) p) (ne-eqb k home n)
+      or-at _ _ (unless-at _ _ (span-at (len v f) (keyTest π v f) (every-at _ h 1) k (present-low k p) (present-high k p)) p) (ne-eqb k home n)
 
   pub wf-of : wellFormed π v f ≡ true → WF
   unfolding wellFormed named gapless
@@ -159,21 +160,21 @@ module _ (π : Partition) (v : View) (f : ℕ) where
         let z : 257 + (k - 257) ≡ k = omega (arith, r .0) in
         let t = subst (λ (x : ℕ). nilTest π v f x ≡ true) z (all-at 99 _ (every-at _ h 2) (k - 257) (omega (arith, r .0, r .1))) in
         eqb-true _ _ (or-at _ _ (or-at _ _ t (ne-eqb k home n)) (le-ltb _ _ l));
-    ends = ends (eqb (len π v f) 0) refl;
+    ends = ends (eqb (len v f) 0) refl;
     last = every-at _ h 3;
     full = full;
     tallied = every-at _ h 5;
   }
     where
-      short : len π v f ≤ reach
+      short : len v f ≤ reach
       short = leb-true _ _ (every-at _ h 0)
 
-      full : (k : ℕ) → first k < len π v f → present π v f k ≡ true
-      full k l = unless-at _ _ (span-at (len π v f) (fullTest π v f) (every-at _ h 4) k (asked-low k (len π v f) l) (asked-high k (len π v f) l)) (lt-ltb _ _ l)
+      full : (k : ℕ) → first k < len v f → present π v f k ≡ true
+      full k l = unless-at _ _ (span-at (len v f) (fullTest π v f) (every-at _ h 4) k (asked-low k (len v f) l) (asked-high k (len v f) l)) (lt-ltb _ _ l)
 
-      ends : (t : Bool) → eqb (len π v f) 0 ≡ t → present π v f (home + len π v f) ≡ true
-      ends true q = ap (present π v f) (let z : home + len π v f ≡ home = omega (arith, eqb-true (len π v f) 0 q) in z) ∙ present-home
-      ends false q = full (home + len π v f) (last-asked (len π v f) (omega (arith, eqb-false (len π v f) 0 q)))
+      ends : (t : Bool) → eqb (len v f) 0 ≡ t → present π v f (home + len v f) ≡ true
+      ends true q = ap (present π v f) (let z : home + len v f ≡ home = omega (arith, eqb-true (len v f) 0 q) in z) ∙ present-home
+      ends false q = full (home + len v f) (last-asked (len v f) (omega (arith, eqb-false (len v f) 0 q)))
 
   named-of : WF → (k : ℕ) → k ≢ home → present π v f k ≡ true → named π v f k ≡ true
   unfolding named every
@@ -188,11 +189,11 @@ module _ (π : Partition) (v : View) (f : ℕ) where
       (cons-same index
       (cons-same nils
       (cons-same (h .last)
-      (cons-same (span-of (len π v f) (fullTest π v f) (λ k l m. unless-of _ _ (λ q. h .full k (ltb-true _ _ q))))
+      (cons-same (span-of (len v f) (fullTest π v f) (λ k l m. unless-of _ _ (λ q. h .full k (ltb-true _ _ q))))
       (cons-same {l = []} (h .tallied) refl))))))
     where
       index : indexed π v f ≡ true
-      index = span-of (len π v f) (keyTest π v f) (λ k l m. unless-of _ _ (λ p. or-of _ _ (λ q. named-of h k (eqb-false k home q) p)))
+      index = span-of (len v f) (keyTest π v f) (λ k l m. unless-of _ _ (λ p. or-of _ _ (λ q. named-of h k (eqb-false k home q) p)))
 
       nils : all 99 (λ i. nilTest π v f (257 + i)) ≡ true
       nils = all-of 99 _ (λ i l. or-of _ _ (λ q. or-of _ _ (λ m. eq-eqb _ _ (h .nil (257 + i) (eqb-false _ _ q) (near-keys (257 + i) (omega arith) (omega arith)) (ltb-false _ _ m)))))
@@ -207,17 +208,17 @@ module _ (π : Partition) (v : View) where
     pub here : present π v f k ≡ true
     pub back : spot π v f k ≡ b
 
-  pub own : (b : ℕ) → owned π v b ≡ true → Own b (fileOf π v b) (key π v b)
+  pub own : (b : ℕ) → owned π v b ≡ true → Own b (fileOf π v b) (key v b)
   unfolding owned
   own b h =
       let t = both-right _ _ h in
       let u = both-right _ _ t in
       record { ser = eqb-true _ _ (both-left _ _ h); file = both-left _ _ t; here = both-left _ _ u; back = eqb-true _ _ (both-right _ _ u) }
 
-  pub owned-by : (b f k : ℕ) → fileOf π v b ≡ f → key π v b ≡ k → Own b f k → owned π v b ≡ true
+  pub owned-by : (b f k : ℕ) → fileOf π v b ≡ f → key v b ≡ k → Own b f k → owned π v b ≡ true
   unfolding owned
   owned-by b f k p q o =
-      ap₂ (λ (g j : ℕ). both (eqb (serial π v b) (pda (π .drive) g)) (both (isFile π v g) (both (present π v g j) (eqb (spot π v g j) b)))) p q
+      ap₂ (λ (g j : ℕ). both (eqb (serial v b) (pda (π .drive) g)) (both (isFile π v g) (both (present π v g j) (eqb (spot π v g j) b)))) p q
       ∙ both-of (eq-eqb _ _ (o .ser)) (both-of (o .file) (both-of (o .here) (eq-eqb _ _ (o .back))))
 
   pub file-candidate : (f : ℕ) → isFile π v f ≡ true → candidate π v f ≡ true
@@ -230,7 +231,7 @@ module _ (π : Partition) (v : View) where
 
 module _ (π : Partition) (v : View) (f : ℕ) (c : candidate π v f ≡ true) (h : wellFormed π v f ≡ true) where
   pub present-pos : (k : ℕ) → present π v f k ≡ true → 0 < k
-  present-pos k p = omega (arith, present-low π v f k p, low-pos (len π v f) (wf-of π v f h .short))
+  present-pos k p = omega (arith, present-low π v f k p, low-pos (len v f) (wf-of π v f h .short))
 
   pub present-few : (k : ℕ) → present π v f k ≡ true → k < 33059
   present-few k p = omega (arith, present-high π v f k p, wf-of π v f h .short)
@@ -250,7 +251,7 @@ module _ (π : Partition) (v : View) (f : ℕ) (c : candidate π v f ≡ true) (
   pub file-back : (k : ℕ) → present π v f k ≡ true → fileOf π v (spot π v f k) ≡ f
   file-back k p = ap (pdaBlock (π .drive)) (member k p .ser) ∙ pda-back (π .drive) f
 
-  pub key-back : (k : ℕ) → present π v f k ≡ true → key π v (spot π v f k) ≡ k
+  pub key-back : (k : ℕ) → present π v f k ≡ true → key v (spot π v f k) ≡ k
   unfolding key
   key-back k p = ap keyOf (member k p .num) ∙ key-number k (omega (arith, present-few k p))
 
@@ -270,7 +271,7 @@ module _ (π : Partition) (v : View) where
     pub is : spot π v f k ≡ b
 
   -- owned exactly if named
-  pub owned-named : (b : ℕ) → owned π v b ≡ true → Names (fileOf π v b) (key π v b) b
+  pub owned-named : (b : ℕ) → owned π v b ≡ true → Names (fileOf π v b) (key v b) b
   owned-named b h = let o = own π v b h in record { file = o .file; here = o .here; is = o .back }
 
   module _ (f k b : ℕ) (n : Names f k b) where
@@ -284,8 +285,8 @@ module _ (π : Partition) (v : View) where
     pub named-file : fileOf π v b ≡ f
     named-file = ap (fileOf π v) (sym (n .is)) ∙ file-back π v f (file-candidate π v f (n .file)) (file-formed π v f (n .file)) k (n .here)
 
-    pub named-key : key π v b ≡ k
-    named-key = ap (key π v) (sym (n .is)) ∙ key-back π v f (file-candidate π v f (n .file)) (file-formed π v f (n .file)) k (n .here)
+    pub named-key : key v b ≡ k
+    named-key = ap (key v) (sym (n .is)) ∙ key-back π v f (file-candidate π v f (n .file)) (file-formed π v f (n .file)) k (n .here)
 
     -- nothing that an index names but the FIB is a candidate
     pub named-no-candidate : k ≢ home → candidate π v b ≡ true → ⊥

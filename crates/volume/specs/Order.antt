@@ -12,7 +12,8 @@ use Rattle.image.specs.View.{View}
 use Rattle.volume.specs.Search.{seek, down, Least, Greatest, seek-least, down-greatest}
 use Rattle.volume.specs.Keys.{home, low, span}
 use Rattle.volume.specs.KeyLaws.{low-pos, span-end}
-use Rattle.volume.specs.Files.{Partition, wellFormed, len, present, above, below, least, size}
+use Rattle.volume.specs.Files.{wellFormed, len, present, above, below, least, size}
+use Rattle.volume.specs.declared.Partition.{Partition}
 use Rattle.volume.specs.Index.{wf-of, present-low, present-high, present-home}
 
 -- ---- of a test of numbers
@@ -96,8 +97,8 @@ module _ (P : ℕ → Bool) where
 -- ---- of a file
 
 module _ (π : Partition) (v : View) (f : ℕ) (h : wellFormed π v f ≡ true) where
-  pos : 0 < low (len π v f)
-  pos = low-pos (len π v f) (wf-of π v f h .short)
+  pos : 0 < low (len v f)
+  pos = low-pos (len v f) (wf-of π v f h .short)
 
   absent : (i : ℕ) → (present π v f i ≡ true → ⊥) → present π v f i ≡ false
   absent i n = go (present π v f i) refl
@@ -107,43 +108,43 @@ module _ (π : Partition) (v : View) (f : ℕ) (h : wellFormed π v f ≡ true) 
       go false q = refl
 
   -- above and below find the next present key and skip none
-  pub above-is : (k : ℕ) → k ≤ home + len π v f → Next (present π v f) k (above π v f k)
+  pub above-is : (k : ℕ) → k ≤ home + len v f → Next (present π v f) k (above π v f k)
   unfolding above
-  above-is k l = record { hit = λ n. (s .hit n .0, s .hit n .1 .0); none = λ i a m. at i a m (ltb (home + len π v f) i) refl }
+  above-is k l = record { hit = λ n. (s .hit n .0, s .hit n .1 .0); none = λ i a m. at i a m (ltb (home + len v f) i) refl }
     where
-      s : Least (present π v f) (suc k) (suc k + (home + len π v f - k)) (seek (home + len π v f - k) (suc k) (present π v f))
-      s = seek-least (home + len π v f - k) (suc k) (present π v f) (omega arith)
+      s : Least (present π v f) (suc k) (suc k + (home + len v f - k)) (seek (home + len v f - k) (suc k) (present π v f))
+      s = seek-least (home + len v f - k) (suc k) (present π v f) (omega arith)
 
-      at : (i : ℕ) → k < i → (seek (home + len π v f - k) (suc k) (present π v f) ≢ 0 → i < seek (home + len π v f - k) (suc k) (present π v f))
-          → (t : Bool) → ltb (home + len π v f) i ≡ t → present π v f i ≡ false
-      at i a m true q = absent i (λ p. omega (arith, ltb-true (home + len π v f) i q, present-high π v f i p))
-      at i a m false q = s .none i a (omega (arith, ltb-false (home + len π v f) i q)) m
+      at : (i : ℕ) → k < i → (seek (home + len v f - k) (suc k) (present π v f) ≢ 0 → i < seek (home + len v f - k) (suc k) (present π v f))
+          → (t : Bool) → ltb (home + len v f) i ≡ t → present π v f i ≡ false
+      at i a m true q = absent i (λ p. omega (arith, ltb-true (home + len v f) i q, present-high π v f i p))
+      at i a m false q = s .none i a (omega (arith, ltb-false (home + len v f) i q)) m
 
-  pub below-is : (k : ℕ) → low (len π v f) ≤ k → Prev (present π v f) k (below π v f k)
+  pub below-is : (k : ℕ) → low (len v f) ≤ k → Prev (present π v f) k (below π v f k)
   unfolding below
-  below-is k l = record { hit = λ n. (s .hit n .0, omega (arith, s .hit n .1 .1)); none = λ i p a m. at i a m (ltb i (low (len π v f))) refl }
+  below-is k l = record { hit = λ n. (s .hit n .0, omega (arith, s .hit n .1 .1)); none = λ i p a m. at i a m (ltb i (low (len v f))) refl }
     where
-      s : Greatest (present π v f) (low (len π v f)) (low (len π v f) + (k - low (len π v f))) (down (low (len π v f)) (k - low (len π v f)) (present π v f))
-      s = down-greatest (low (len π v f)) (k - low (len π v f)) (present π v f) pos
+      s : Greatest (present π v f) (low (len v f)) (low (len v f) + (k - low (len v f))) (down (low (len v f)) (k - low (len v f)) (present π v f))
+      s = down-greatest (low (len v f)) (k - low (len v f)) (present π v f) pos
 
-      at : (i : ℕ) → i < k → (down (low (len π v f)) (k - low (len π v f)) (present π v f) ≢ 0 → down (low (len π v f)) (k - low (len π v f)) (present π v f) < i)
-          → (t : Bool) → ltb i (low (len π v f)) ≡ t → present π v f i ≡ false
-      at i a m true q = absent i (λ p. omega (arith, ltb-true i (low (len π v f)) q, present-low π v f i p))
-      at i a m false q = s .none i (ltb-false i (low (len π v f)) q) (omega arith) m
+      at : (i : ℕ) → i < k → (down (low (len v f)) (k - low (len v f)) (present π v f) ≢ 0 → down (low (len v f)) (k - low (len v f)) (present π v f) < i)
+          → (t : Bool) → ltb i (low (len v f)) ≡ t → present π v f i ≡ false
+      at i a m true q = absent i (λ p. omega (arith, ltb-true i (low (len v f)) q, present-low π v f i p))
+      at i a m false q = s .none i (ltb-false i (low (len v f)) q) (omega arith) m
 
   -- the least present key: the next above 0
   pub least-is : Next (present π v f) 0 (least π v f)
   unfolding least
-  least-is = record { hit = λ n. (s .hit n .0, omega (arith, s .hit n .1 .0, pos)); none = λ i a m. at i m (ltb (home + len π v f) i) refl (ltb i (low (len π v f))) refl }
+  least-is = record { hit = λ n. (s .hit n .0, omega (arith, s .hit n .1 .0, pos)); none = λ i a m. at i m (ltb (home + len v f) i) refl (ltb i (low (len v f))) refl }
     where
-      s : Least (present π v f) (low (len π v f)) (low (len π v f) + span (len π v f)) (seek (span (len π v f)) (low (len π v f)) (present π v f))
-      s = seek-least (span (len π v f)) (low (len π v f)) (present π v f) pos
+      s : Least (present π v f) (low (len v f)) (low (len v f) + span (len v f)) (seek (span (len v f)) (low (len v f)) (present π v f))
+      s = seek-least (span (len v f)) (low (len v f)) (present π v f) pos
 
-      at : (i : ℕ) → (seek (span (len π v f)) (low (len π v f)) (present π v f) ≢ 0 → i < seek (span (len π v f)) (low (len π v f)) (present π v f))
-          → (t : Bool) → ltb (home + len π v f) i ≡ t → (u : Bool) → ltb i (low (len π v f)) ≡ u → present π v f i ≡ false
-      at i m true q u r = absent i (λ p. omega (arith, ltb-true (home + len π v f) i q, present-high π v f i p))
-      at i m false q true r = absent i (λ p. omega (arith, ltb-true i (low (len π v f)) r, present-low π v f i p))
-      at i m false q false r = s .none i (ltb-false i (low (len π v f)) r) (omega (arith, ltb-false (home + len π v f) i q, span-end (len π v f))) m
+      at : (i : ℕ) → (seek (span (len v f)) (low (len v f)) (present π v f) ≢ 0 → i < seek (span (len v f)) (low (len v f)) (present π v f))
+          → (t : Bool) → ltb (home + len v f) i ≡ t → (u : Bool) → ltb i (low (len v f)) ≡ u → present π v f i ≡ false
+      at i m true q u r = absent i (λ p. omega (arith, ltb-true (home + len v f) i q, present-high π v f i p))
+      at i m false q true r = absent i (λ p. omega (arith, ltb-true i (low (len v f)) r, present-low π v f i p))
+      at i m false q false r = s .none i (ltb-false i (low (len v f)) r) (omega (arith, ltb-false (home + len v f) i q, span-end (len v f))) m
 
   pub least-present : (least π v f ≢ 0) × (present π v f (least π v f) ≡ true)
   least-present = (ne, least-is .hit ne .0)
@@ -160,8 +161,8 @@ module _ (π : Partition) (v : View) (f : ℕ) (h : wellFormed π v f ≡ true) 
       (next-prev (present π v f) k (above π v f k) (omega (arith, pos)) p n a)
 
   -- blocks in use: the present keys, counted up to any bound past the last
-  pub size-is : (e : ℕ) → home + len π v f < e → size π v f ≡ count e (present π v f)
+  pub size-is : (e : ℕ) → home + len v f < e → size π v f ≡ count e (present π v f)
   unfolding size
   size-is e l =
-      count-window (present π v f) (low (len π v f)) (span (len π v f)) e
-      (λ i p. (present-low π v f i p, omega (arith, present-high π v f i p, span-end (len π v f)))) (omega (arith, span-end (len π v f)))
+      count-window (present π v f) (low (len v f)) (span (len v f)) e
+      (λ i p. (present-low π v f i p, omega (arith, present-high π v f i p, span-end (len v f)))) (omega (arith, span-end (len v f)))

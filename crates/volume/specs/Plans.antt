@@ -7,12 +7,13 @@ use lib.Dec.{leb, ltb, eqb}
 use lib.ListN.{length}
 use Rattle.base.specs.Tests.{pick, both, tabFrom, lastOf, headOf}
 use Rattle.base.specs.Tests as tests
-use Rattle.drive.specs.Address.{pda, pdaBlock, lda, ldaBlock}
+use Rattle.drive.specs.Address.{pda, pdaBlock, lda, ldaBlock, orNil}
 use Rattle.image.specs.View.{View, Rec, Store, pair, put, put2, blank}
 use Rattle.image.specs.Saves.{withText}
 use Rattle.volume.specs.Words.{serialAt, relativeAt, fillerAt, nextAt, previousAt, kindAt, inUseAt, lastBlockAt, lastAddressAt, lowNumberAt, lowAddressAt, freeHeadAt, freeTailAt, numberFreeAt, fibNumber}
 use Rattle.volume.specs.Keys.{home, child, first}
-use Rattle.volume.specs.Files.{Partition, address, len, end, spot, fileOf, key, owned, unowned, above, below, least, size, link, freeHead, orNil}
+use Rattle.volume.specs.Files.{address, len, end, spot, fileOf, key, owned, unowned, above, below, least, size, link, freeHead}
+use Rattle.volume.specs.declared.Partition.{Partition}
 
 abbrev pub st : ℕ → Rec → Store
 st b r = record { at = b; rec = r }
@@ -113,24 +114,24 @@ module _ (π : Partition) (v : View) where
   unfoldable pub destroyPlan : ℕ → Plan
   destroyPlan f =
       let top = spot π v f (least π v f) in
-      let last = spot π v f (end π v f) in
-      destroyed (π .drive) v (π .s) f (eqb (least π v f) home) (eqb (len π v f) 0) (size π v f) top last freeTail (freeHead π v)
+      let last = spot π v f (end v f) in
+      destroyed (π .drive) v (π .s) f (eqb (least π v f) home) (eqb (len v f) 0) (size π v f) top last freeTail (freeHead π v)
 
   -- ---- repair
 
   -- an owned block, its links by the index
   unfoldable pub content : ℕ → Rec
-  content b = shaped (len π v (fileOf π v b)) (key π v b) (v b)
+  content b = shaped (len v (fileOf π v b)) (key v b) (v b)
 
   unfoldable pub relinked : ℕ → Rec
   relinked b =
       let f = fileOf π v b in
-      let k = key π v b in
+      let k = key v b in
       put2 nextAt (link π v f (above π v f k)) (put2 previousAt (link π v f (below π v f k)) (content b))
 
   -- an unowned block, in the ascending chain of the blocks fr
   unfoldable pub freed : List ℕ → ℕ → Rec
-  freed fr b = put2 serialAt 0 (put fillerAt (asFiller (headOf 0 fr)) (put2 nextAt (orNil π (tests.above b fr)) (put2 previousAt (orNil π (tests.below b fr)) (v b))))
+  freed fr b = put2 serialAt 0 (put fillerAt (asFiller (headOf 0 fr)) (put2 nextAt (orNil (π .drive) (tests.above b fr)) (put2 previousAt (orNil (π .drive) (tests.below b fr)) (v b))))
 
   unfoldable pub repaired : List ℕ → ℕ → Rec
   repaired fr b = pick (owned π v b) (relinked b) (freed fr b)

@@ -12,7 +12,8 @@ use Rattle.drive.specs.Address.{blocks, lda}
 use Rattle.image.specs.View.{View}
 use Rattle.image.specs.Image.{view}
 use Rattle.base.specs.Laws.{every-at, both-left, both-right}
-use Rattle.volume.specs.Files.{Partition, isLda, address, inside, candidate}
+use Rattle.volume.specs.Files.{partitionOf, isLda, address, inside, candidate}
+use Rattle.volume.specs.declared.Partition.{Partition}
 use Rattle.drive.specs.Laws.{blocks-few}
 use Rattle.volume.specs.Answers.{imageGood, partGood, endOf, partition}
 use Rattle.volume.specs.declared.Part.the-variants.{Good}
@@ -31,23 +32,23 @@ address-lda d old b = go (eqb old (lda d b)) refl
     go false q = refl
 
 -- what a good partition gives the code that goes on with it
-pub record Lies (d : ℕ) (l : List ℕ) (s e : ℕ) : Type 0 where
-  pub known : d ≤ 3
-  pub start : 1 ≤ s
-  pub order : s < e
-  pub within : 528 * e + 528 ≤ length l
-  pub few : e < 69552
-  pub small : e - s < 32767
+pub record Lies (π : Partition) (l : List ℕ) : Type 0 where
+  pub known : π .drive ≤ 3
+  pub start : 1 ≤ π .s
+  pub order : π .s < π .e
+  pub within : 528 * π .e + 528 ≤ length l
+  pub few : π .e < 69552
+  pub small : π .e - π .s < 32767
 
 pub image-blocks : (d n : ℕ) → imageGood d n ≡ true → (528 * (n / 528) ≤ n) × (n / 528 < 69553)
 unfolding imageGood
 image-blocks d n h = (omega arith, (let q : n / 528 ≤ blocks d = leb-true _ _ (every-at _ h 3) in omega (arith, blocks-few d)))
 
-pub lies : (d : ℕ) (l : List ℕ) (s e : ℕ) → partition d l s ≡ Good e → Lies d l s e
+pub lies : (d : ℕ) (l : List ℕ) (s e : ℕ) → partition d l s ≡ Good e → Lies (partitionOf d s e) l
 unfolding partition imageGood partGood
 lies d l s e h = go (imageGood d (length l)) refl (partGood d (length l / 528) (view l) s) refl
   where
-    go : (t : Bool) → imageGood d (length l) ≡ t → (u : Bool) → partGood d (length l / 528) (view l) s ≡ u → Lies d l s e
+    go : (t : Bool) → imageGood d (length l) ≡ t → (u : Bool) → partGood d (length l / 528) (view l) s ≡ u → Lies (partitionOf d s e) l
     go true i true p =
         let q = rw (i, p, partition) at h in
         let z : endOf d (view l) s ≡ e = cc in

@@ -20,7 +20,8 @@ use Rattle.image.specs.Saves.{withData, withText, words}
 use Rattle.volume.specs.Words.{partitionStartAt, partitionEndAt}
 use Rattle.volume.specs.Search.{seek, down}
 use Rattle.volume.specs.Keys.{keyOf, number, up, slot, child, first, low, span}
-use Rattle.volume.specs.Files.{Partition, partitionOf, isLda, address, inside, within, candidate, len, spotIn, presentIn, spot, present, entry, least, size, tally, named, indexed, gapless, wellFormed, isFile, isMalformed, key, owned, files, unowned, above, below, link, linked, chain, free, chained, freeSound, sound}
+use Rattle.volume.specs.Files.{partitionOf, isLda, address, inside, within, candidate, len, spotIn, presentIn, spot, present, entry, least, size, tally, named, indexed, gapless, wellFormed, isFile, isMalformed, key, owned, files, unowned, above, below, link, linked, chain, free, chained, freeSound, sound}
+use Rattle.volume.specs.declared.Partition.{Partition}
 use Rattle.volume.specs.Answers.{lowest, lowestMalformed, tallied, checkIn}
 use Rattle.volume.specs.Plans.{newFirst, pibLess, freshFib, gone, topGone, fibGone, topGoneStores, lastGoneStores, pibMore, destroyed, trimmed, shaped, stores, freeAt, takenStores, createPlan, describePlan, destroyPlan, content, relinked, freed, repaired, repairedPib, repairPlan}
 use Rattle.volume.specs.Writes.{put2If, over, counted, inner, needs, isNew, fresh, present′, spot′, above′, below′, least′, size′, link′, early, empty, base, entered, ended, body, grown, planOf, writePlan, replacePlan}
@@ -65,7 +66,7 @@ block w = w + 7
 
 -- repaired: what check answers, L + 1 of file 2, and the free chain
 pub mended : View → List ℕ
-mended v = let v′ = after (repairIn seven v .list) v in outcomeOf (checkIn seven v′) ++ (len seven v′ 2 ∷ free seven v′)
+mended v = let v′ = after (repairIn seven v .list) v in outcomeOf (checkIn seven v′) ++ (len v′ 2 ∷ free seven v′)
 
 pub table : List (List ℕ)
 unfolding zeroed mended both every all count tabFrom those occ lastOf headOf tests.above tests.below onDrive placeNumber guess blocks pda pdaBlock lda ldaBlock fileId fileIdBlock fileIds lbnToPda lbnToLda ldaToLbn pdaToLbn lbnToFileId after put put2 blank withData withText words seek down keyOf number up slot child first low span isLda address inside within candidate len spotIn presentIn spot present entry least size tally named indexed gapless wellFormed isFile isMalformed key owned files unowned above below link linked chain free chained freeSound sound lowest lowestMalformed tallied checkIn newFirst pibLess freshFib gone topGone fibGone topGoneStores lastGoneStores pibMore destroyed trimmed shaped stores freeAt takenStores createPlan describePlan destroyPlan content relinked freed repaired repairedPib repairPlan put2If over counted inner needs isNew fresh present′ spot′ above′ below′ least′ size′ link′ early empty base entered ended body grown planOf writePlan replacePlan createIn appendIn writeIn describeIn destroyIn repairIn

@@ -11,7 +11,8 @@ use Rattle.image.specs.Saves.{withData}
 use Rattle.volume.specs.Words.{serialAt, relativeAt, fillerAt, nextAt, previousAt, lastBlockAt, lastAddressAt, inUseAt, lowNumberAt, lowAddressAt}
 use Rattle.volume.specs.Search.{seek, down}
 use Rattle.volume.specs.Keys.{home, number, up, slot, low, span}
-use Rattle.volume.specs.Files.{Partition, address, end, spot, present, least}
+use Rattle.volume.specs.Files.{address, end, spot, present, least}
+use Rattle.volume.specs.declared.Partition.{Partition}
 use Rattle.volume.specs.Plans.{Plan, st, freeAt, takenStores}
 
 -- a record with the pair of words from i on replaced where t holds
@@ -73,7 +74,7 @@ module _ (π : Partition) (v : View) where
     -- the keys whose stores come before the FIB's: the data block, the pointer block over it, the old last block, and the old first
     -- one where a pointer block is new; but for the FIB
     unfoldable pub early : List ℕ
-    early = over r 0 ∷ inner (over r 1 ∷ (end π v f ∷ pick (leb 2 needs) (least π v f ∷ []) []))
+    early = over r 0 ∷ inner (over r 1 ∷ (end v f ∷ pick (leb 2 needs) (least π v f ∷ []) []))
 
     module _ (dat : Rec) where
       -- a new block

@@ -1,6 +1,15 @@
 // What the calls answer. The definitions of document 01 stand in specs/, and docs/DEFINITIONS.md leads to each.
 use base::Refusal;
 
+pub mod words; // words.rt: where the words of a record stand
+
+// A partition: its drive, its first block, which is the PIB, and its last.
+pub struct Partition {
+    pub drive: usize,
+    pub s: usize,
+    pub e: usize,
+}
+
 // The lowest block with something, if any has it.
 pub enum Found {
     At(usize),

@@ -2,18 +2,11 @@
 // blocks, the second append cut after each of its stores and repaired, and the file destroyed.
 ghost use Prim.Native.Nat.{_<_};
 use volume::Outcome;
-
-// The words of a record that the example reads and sets: FreeHead, PartitionStart and PartitionEnd of the PIB, a header's next link, and
-// the last block of a FIB.
-const FREE_HEAD: usize = 8;
-
-const START: usize = 126;
-
-const END: usize = 128;
-
-const NEXT: usize = 4;
-
-const LAST: usize = 258;
+use volume::words::FREE_HEAD;
+use volume::words::LAST_BLOCK;
+use volume::words::NEXT;
+use volume::words::PARTITION_END;
+use volume::words::PARTITION_START;
 
 // The example's calls in their order.
 const CREATE: usize = 0;
@@ -32,8 +25,8 @@ const ALL: usize = 100;
 // An image of eight zero records, with the start 1 and the end 7 set in record 1.
 fn unmade() -> [u8; 4224] {
     let mut img = [0u8; 4224];
-    let r = image::with_pair(image::blank(), START, 256 * (1 + 12582912));
-    let r = image::with_pair(r, END, 256 * (7 + 12582912));
+    let r = image::with_pair(image::blank(), PARTITION_START, 256 * (1 + 12582912));
+    let r = image::with_pair(r, PARTITION_END, 256 * (7 + 12582912));
     image::store_at(&mut img, 1, r);
     img
 }
@@ -157,7 +150,7 @@ fn cut(img: [u8; 4224], k: usize) {
     io::write_all(1, b"append 1 cut after");
     number(k);
     io::write_all(1, b" stores: L =");
-    number(image::word(&x, 2, LAST));
+    number(image::word(&x, 2, LAST_BLOCK));
     chain(&x);
     end();
 }

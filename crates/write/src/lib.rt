@@ -10,12 +10,12 @@ ghost use Rattle.volume.specs.Keys.{reach};
 ghost use Rattle.volume.specs.Files.{partitionOf, candidate, len};
 ghost use Rattle.volume.specs.Calls.{appendIn, writeIn, Answered, planned, write};
 ghost use Rattle.change.specs.Gate.{Opens};
+use append::Append;
 use base::Refusal;
+use inspect::REACH;
 use volume::Answer;
 use volume::Part;
-
-// How far the index of a file reaches: relative blocks lie below it.
-const REACH: usize = 4160;
+use volume::Partition;
 
 // a where `on`, else b.
 fn choose(on: bool, a: usize, b: usize) -> usize
@@ -27,76 +27,79 @@ fn choose(on: bool, a: usize, b: usize) -> usize
 // Append to the file f of n blocks in a sound partition: 8. The data block is the first free block, a new pointer block the second.
 fn append_open(
     img: &mut [u8],
-    drive: usize,
-    s: usize,
-    e: usize,
+    p: Partition,
     f: usize,
     n: usize,
     block: &[u8],
     limit: usize,
 ) -> Answer
-    requires { ⌜ (Opens drive (now img) s e) × (candidate (partitionOf drive s e) (view (now img)) f ≡ true) × (n ≡ len (partitionOf drive s e) (view (now img)) f) × (n < reach) × (length (now block) ≡ 512) ⌝ }
-    ensures { λ a. ⌜ Answered limit (appendIn (partitionOf drive s e) (view (now (img .entry))) f n (words (now (block .entry)))) (now (img .entry)) (now (img .exit)) a ⌝ }
+    requires { ⌜ (Opens p (now img)) × (candidate p (view (now img)) f ≡ true) × (n ≡ len (view (now img)) f) × (n < reach) × (length (now block) ≡ 512) ⌝ }
+    ensures { λ a. ⌜ Answered limit (appendIn p (view (now (img .entry))) f n (words (now (block .entry)))) (now (img .entry)) (now (img .exit)) a ⌝ }
 {
     let grows = append::place::grows(n);
     let m = choose(grows, 2, 1);
-    if change::free::room(img, drive, s, e) <= m {
+    if change::free::room(img, p) <= m {
         return change::refused(Refusal::Full);
     }
-    let a = change::free::head(img, drive, s, e);
-    let q = change::free::next(img, drive, a);
-    let z = change::free::next(img, drive, q);
+    let a = change::free::head(img, p);
+    let q = change::free::next(img, p.drive, a);
+    let z = change::free::next(img, p.drive, q);
     let g = choose(grows, z, q);
-    let made = append::append_store(img, drive, s, e, f, n, a, q, g, m, block, limit);
+    let w = Append {
+        p,
+        f,
+        n,
+        a,
+        q,
+        g,
+        m,
+    };
+    let made = append::append_store(img, w, block, limit);
     change::done(0, made)
 }
 
 // Replace block r of the file f in a sound partition.
 fn replace_open(
     img: &mut [u8],
-    drive: usize,
-    s: usize,
-    e: usize,
+    p: Partition,
     f: usize,
     r: usize,
     block: &[u8],
     limit: usize,
 ) -> Answer
-    requires { ⌜ (Opens drive (now img) s e) × (candidate (partitionOf drive s e) (view (now img)) f ≡ true) × (r < reach) × (r < len (partitionOf drive s e) (view (now img)) f) × (length (now block) ≡ 512) ⌝ }
-    ensures { λ a. ⌜ Answered limit (writeIn (partitionOf drive s e) (view (now (img .entry))) f r (words (now (block .entry)))) (now (img .entry)) (now (img .exit)) a ⌝ }
+    requires { ⌜ (Opens p (now img)) × (candidate p (view (now img)) f ≡ true) × (r < reach) × (r < len (view (now img)) f) × (length (now block) ≡ 512) ⌝ }
+    ensures { λ a. ⌜ Answered limit (writeIn p (view (now (img .entry))) f r (words (now (block .entry)))) (now (img .entry)) (now (img .exit)) a ⌝ }
 {
-    let b = inspect::name(img, drive, s, e, f, r);
+    let b = inspect::name(img, p, f, r);
     change::done(0, records::replace_store(img, b, block, limit))
 }
 
 // Write in a sound partition: 6, 7, and 8 where it appends.
 fn write_open(
     img: &mut [u8],
-    drive: usize,
-    s: usize,
-    e: usize,
+    p: Partition,
     f: usize,
     r: usize,
     block: &[u8],
     limit: usize,
 ) -> Answer
-    requires { ⌜ (Opens drive (now img) s e) × (length (now block) ≡ 512) ⌝ }
-    ensures { λ a. ⌜ Answered limit (writeIn (partitionOf drive s e) (view (now (img .entry))) f r (words (now (block .entry)))) (now (img .entry)) (now (img .exit)) a ⌝ }
+    requires { ⌜ (Opens p (now img)) × (length (now block) ≡ 512) ⌝ }
+    ensures { λ a. ⌜ Answered limit (writeIn p (view (now (img .entry))) f r (words (now (block .entry)))) (now (img .entry)) (now (img .exit)) a ⌝ }
 {
-    if !inspect::candidate(img, drive, s, e, f) {
+    if !inspect::candidate(img, p, f) {
         return change::refused(Refusal::NoCandidate);
     }
     if REACH <= r {
         return change::refused(Refusal::BadBlock);
     }
-    let n = inspect::len(img, drive, s, e, f);
+    let n = inspect::len(img, f);
     if r < n {
-        return replace_open(img, drive, s, e, f, r, block, limit);
+        return replace_open(img, p, f, r, block, limit);
     }
     if n < r {
         return change::refused(Refusal::BadBlock);
     }
-    append_open(img, drive, s, e, f, n, block, limit)
+    append_open(img, p, f, n, block, limit)
 }
 
 // Write: the 512 bytes of `block` become block r of the file f.
@@ -113,7 +116,7 @@ pub fn write(
 {
     let g = change::enter(img, drive, s, block.len() == 512);
     match g {
-        Part::Good(e) => write_open(img, drive, s, e, f, r, block, limit),
+        Part::Good(e) => write_open(img, Partition { drive, s, e }, f, r, block, limit),
         Part::Refused(why) => change::refused(why),
     }
 }

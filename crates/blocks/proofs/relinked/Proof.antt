@@ -7,7 +7,7 @@ use Rattle.blocks.proofs.relinked.Statement.{statement}
 use Rattle.blocks.proofs.relinked.Tie as tie
 
 -- what the code has read of the block and its file
-read : (c : tie.After-len) → (let a = c .before .before .before .before .before .args in Filed (partitionOf (a .drive) (a .s) (a .e)) (now (a .img)) (a .b) (c .before .before .pda-block .result) (c .len .result) (c .before .key-in .result))
+read : (c : tie.After-len) → (let a = c .before .before .before .before .before .args in Filed (a .p) (now (a .img)) (a .b) (c .before .before .pda-block .result) (c .len .result) (c .before .key-in .result))
 read c = let h = c .before .before .before .before .before .pre in filed _ (h .0) (h .2) (c .before .before .before .pair .ensures .0) (c .before .before .pda-block .ensures .0) (c .len .ensures .0) (c .before .key-in .ensures .0)
 
 len-requires : tie.Need-len-requires

@@ -8,10 +8,10 @@ use Rattle.extract.proofs.copy_blocks.Statement.{statement}
 use Rattle.extract.proofs.copy_blocks.Tie as tie
 
 abbrev Inv-loop : tie.InvT-loop
-Inv-loop img drive s e f k buf₀ r₀ buf r = Copied (partitionOf drive s e) img f k buf r
+Inv-loop img p f k buf₀ r₀ buf r = Copied p img f k buf r
 
 abbrev μ-loop : tie.MeasureT-loop
-μ-loop img drive s e f k buf₀ r₀ buf r = k - r
+μ-loop img p f k buf₀ r₀ buf r = k - r
 
 loop-holds : tie.Need-loop-holds Inv-loop μ-loop
 loop-holds c = copied-none _ _ _ _ _ (c .before .before .pre .2)

@@ -8,14 +8,14 @@ use Rattle.inspect.proofs.lowest_malformed.Statement.{statement}
 use Rattle.inspect.proofs.lowest_malformed.Tie as tie
 
 abbrev Inv-loop : tie.InvT-loop
-Inv-loop img drive s e end f₀ f = Searching (isMalformed (partitionOf drive s e) (view img)) (e + 1) f (lowestMalformed (partitionOf drive s e) (view img))
+Inv-loop img p end f₀ f = Searching (isMalformed p (view img)) (p .e + 1) f (lowestMalformed p (view img))
 
 abbrev μ-loop : tie.MeasureT-loop
-μ-loop img drive s e end f₀ f = e + 1 - f
+μ-loop img p end f₀ f = p .e + 1 - f
 
 loop-holds : tie.Need-loop-holds Inv-loop μ-loop
 unfolding lowestMalformed
-loop-holds c = let i = c .before .pre in search-starts-as _ _ _ _ (omega arith)
+loop-holds c = let i = c .before .before .before .pre in search-starts-as _ _ _ _ (omega arith)
 
 pub lowest-malformed-spec : {M : Type 1} → statement M
 lowest-malformed-spec =

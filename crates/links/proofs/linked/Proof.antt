@@ -13,10 +13,10 @@ use Rattle.links.proofs.linked.Statement.{statement}
 use Rattle.links.proofs.linked.Tie as tie
 
 abbrev Inv-loop : tie.InvT-loop
-Inv-loop img drive s e f n k₀ before₀ b₀ own₀ k before b own = Linking (partitionOf drive s e) img f k before b own
+Inv-loop img p f n k₀ before₀ b₀ own₀ k before b own = Linking p img f k before b own
 
 abbrev μ-loop : tie.MeasureT-loop
-μ-loop img drive s e f n k₀ before₀ b₀ own₀ k before b own = 292 + n - k
+μ-loop img p f n k₀ before₀ b₀ own₀ k before b own = 292 + n - k
 
 low-requires : tie.Need-low-requires Inv-loop μ-loop
 low-requires c κs = len-few (c .before .before .pre) (c .len .ensures .0)
@@ -37,7 +37,7 @@ next-key-requires : tie.Need-next-key-requires Inv-loop μ-loop
 next-key-requires c κs = (len-few (c .before .before .before .before .before .before .before .pre) (c .before .before .before .before .before .len .ensures .0), key-few (c .before .before .before .before .before .before .before .pre) _ (c .before .loop .inv .there))
 
 -- the turn, where the next key is known: the ways by which the tail is good have met
-turn : (c : tie.After-next-key Inv-loop μ-loop) → (let a = c .before .before .before .before .before .before .before .before .args in let w = c .before .before .loop in Turn (partitionOf (a .drive) (a .s) (a .e)) (now (a .img)) (a .f) (w .k) (w .before) (w .b) (w .own) (c .next-key .result))
+turn : (c : tie.After-next-key Inv-loop μ-loop) → (let a = c .before .before .before .before .before .before .before .before .args in let w = c .before .before .loop in Turn (a .p) (now (a .img)) (a .f) (w .k) (w .before) (w .b) (w .own) (c .next-key .result))
 turn c =
     let g = c .before .before .loop .inv in
     let n = c .before .before .before .before .before .before .len .ensures .0 in

@@ -11,10 +11,10 @@ use Rattle.listing.proofs.file_above.Statement.{statement}
 use Rattle.listing.proofs.file_above.Tie as tie
 
 abbrev Inv-loop : tie.InvT-loop
-Inv-loop img drive s e b a end f₀ f = Searching (isFile (partitionOf drive s e) (view img)) (e + 1) f (fileAbove (partitionOf drive s e) (view img) b)
+Inv-loop img p b a end f₀ f = Searching (isFile p (view img)) (p .e + 1) f (fileAbove p (view img) b)
 
 abbrev μ-loop : tie.MeasureT-loop
-μ-loop img drive s e b a end f₀ f = e + 1 - f
+μ-loop img p b a end f₀ f = p .e + 1 - f
 
 returns : tie.Need-returns Inv-loop μ-loop
 unfolding fileAbove

@@ -6,10 +6,10 @@ use Rattle.repair.proofs.mend.Statement.{statement}
 use Rattle.repair.proofs.mend.Tie as tie
 
 abbrev Inv-loop : tie.InvT-loop
-Inv-loop img₀ drive s e first limit t₀ end b₀ img t b = (b ≤ e + 1) × Mending (partitionOf drive s e) img₀ limit img b t
+Inv-loop img₀ p first limit t₀ end b₀ img t b = (b ≤ p .e + 1) × Mending p img₀ limit img b t
 
 abbrev μ-loop : tie.MeasureT-loop
-μ-loop img₀ drive s e first limit t₀ end b₀ img t b = e + 1 - b
+μ-loop img₀ p first limit t₀ end b₀ img t b = p .e + 1 - b
 
 add-end : tie.Need-add-end Inv-loop μ-loop
 add-end c = omega (arith, c .before .pre .0 .lies .few)

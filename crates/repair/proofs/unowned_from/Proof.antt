@@ -12,10 +12,10 @@ use Rattle.repair.proofs.unowned_from.Statement.{statement}
 use Rattle.repair.proofs.unowned_from.Tie as tie
 
 abbrev Inv-loop : tie.InvT-loop
-Inv-loop img drive s e from end b₀ b = Seeking (isFree (partitionOf drive s e) (view img)) (suc e) b (headOf 0 (those from (suc e - from) (isFree (partitionOf drive s e) (view img))))
+Inv-loop img p from end b₀ b = Seeking (isFree p (view img)) (suc (p .e)) b (headOf 0 (those from (suc p .e - from) (isFree p (view img))))
 
 abbrev μ-loop : tie.MeasureT-loop
-μ-loop img drive s e from end b₀ b = e + 1 - b
+μ-loop img p from end b₀ b = p .e + 1 - b
 
 loop-holds : tie.Need-loop-holds Inv-loop μ-loop
 loop-holds c = seek-starts

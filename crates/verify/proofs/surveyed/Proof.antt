@@ -10,10 +10,10 @@ use Rattle.verify.proofs.surveyed.Statement.{statement}
 use Rattle.verify.proofs.surveyed.Tie as tie
 
 abbrev Inv-loop : tie.InvT-loop
-Inv-loop img drive s e m files₀ owned₀ i₀ files owned i = Passed (partitionOf drive s e) (view img) i files owned × (i ≤ m)
+Inv-loop img p m files₀ owned₀ i₀ files owned i = Passed p (view img) i files owned × (i ≤ m)
 
 abbrev μ-loop : tie.MeasureT-loop
-μ-loop img drive s e m files₀ owned₀ i₀ files owned i = m - i
+μ-loop img p m files₀ owned₀ i₀ files owned i = m - i
 
 sub-m : tie.Need-sub-m Inv-loop μ-loop
 sub-m c = omega (arith, c .before .pre .order)

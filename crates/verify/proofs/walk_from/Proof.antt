@@ -9,10 +9,10 @@ use Rattle.verify.proofs.walk_from.Statement.{statement}
 use Rattle.verify.proofs.walk_from.Tie as tie
 
 abbrev Inv-loop : tie.InvT-loop
-Inv-loop img drive s e head most before₀ b₀ n₀ before b n = Walking (partitionOf drive s e) (view img) most before b n (walk (partitionOf drive s e) (view img) (e - s) 0 head 0)
+Inv-loop img p head most before₀ b₀ n₀ before b n = Walking p (view img) most before b n (walk p (view img) (p .e - p .s) 0 head 0)
 
 abbrev μ-loop : tie.MeasureT-loop
-μ-loop img drive s e head most before₀ b₀ n₀ before b n = most - n
+μ-loop img p head most before₀ b₀ n₀ before b n = most - n
 
 sub-most : tie.Need-sub-most Inv-loop μ-loop
 sub-most c = let i = c .before .pre .0 in omega (arith, i .order)

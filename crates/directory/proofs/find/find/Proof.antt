@@ -8,16 +8,16 @@ use Rattle.directory.proofs.find.find.Statement.{statement}
 use Rattle.directory.proofs.find.find.Tie as tie
 
 abbrev Inv-loop2 : tie.InvT-loop2
-Inv-loop2 img drive s e rule f part k r b i₀ i = let π = partitionOf drive s e in (Searching (defs.hit π img (defs.selected rule) part f) (16 * k) (16 * r + i) (defs.find π img (defs.selected rule) part f)) × (i ≤ 16)
+Inv-loop2 img p rule f part k r b i₀ i = let π = partitionOf (p .drive) s e in (Searching (defs.hit π img (defs.selected rule) part f) (16 * k) (16 * r + i) (defs.find π img (defs.selected rule) part f)) × (i ≤ 16)
 
 abbrev μ-loop2 : tie.MeasureT-loop2
-μ-loop2 img drive s e rule f part k r b i₀ i = 16 - i
+μ-loop2 img p rule f part k r b i₀ i = 16 - i
 
 abbrev Inv-loop : tie.InvT-loop
-Inv-loop img drive s e rule f part k r₀ r = let π = partitionOf drive s e in (Searching (defs.hit π img (defs.selected rule) part f) (16 * k) (16 * r) (defs.find π img (defs.selected rule) part f)) × (r ≤ k)
+Inv-loop img p rule f part k r₀ r = let π = partitionOf (p .drive) s e in (Searching (defs.hit π img (defs.selected rule) part f) (16 * k) (16 * r) (defs.find π img (defs.selected rule) part f)) × (r ≤ k)
 
 abbrev μ-loop : tie.MeasureT-loop
-μ-loop img drive s e rule f part k r₀ r = k - r
+μ-loop img p rule f part k r₀ r = k - r
 
 loop-holds : tie.Need-loop-holds Inv-loop2 μ-loop2 Inv-loop μ-loop
 loop-holds c = (find-starts _ _ _ _ _ _ (c .len .ensures .0), omega arith)

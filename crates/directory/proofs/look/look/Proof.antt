@@ -11,10 +11,10 @@ use Rattle.directory.proofs.look.look.Statement.{statement}
 use Rattle.directory.proofs.look.look.Tie as tie
 
 abbrev Inv-loop : tie.InvT-loop
-Inv-loop img drive s e rule root path n f₀ p₀ d₀ f p d = let π = partitionOf drive s e in Looking π img (defs.selected rule) path d p f (defs.look π img (defs.selected rule) 9 path 0 root)
+Inv-loop img p rule root path n f₀ p₀ d₀ f p d = let π = partitionOf (p .drive) s e in Looking π img (defs.selected rule) path d p f (defs.look π img (defs.selected rule) 9 path 0 root)
 
 abbrev μ-loop : tie.MeasureT-loop
-μ-loop img drive s e rule root path n f₀ p₀ d₀ f p d = 9 - d
+μ-loop img p rule root path n f₀ p₀ d₀ f p d = 9 - d
 
 loop-holds : tie.Need-loop-holds Inv-loop μ-loop
 loop-holds c = record { left = refl; file = c .before .before .before .pre .2; low = omega arith; few = omega arith }

@@ -8,10 +8,10 @@ use Rattle.inspect.proofs.index.direct_good.Statement.{statement}
 use Rattle.inspect.proofs.index.direct_good.Tie as tie
 
 abbrev Inv-loop : tie.InvT-loop
-Inv-loop img drive s e f own m r₀ r = Passed (dataTest (partitionOf drive s e) (view img) f) m r (all m (dataTest (partitionOf drive s e) (view img) f))
+Inv-loop img p f own m r₀ r = Passed (dataTest p (view img) f) m r (all m (dataTest p (view img) f))
 
 abbrev μ-loop : tie.MeasureT-loop
-μ-loop img drive s e f own m r₀ r = m - r
+μ-loop img p f own m r₀ r = m - r
 
 pub direct-good-spec : {M : Type 1} → statement M
 direct-good-spec =

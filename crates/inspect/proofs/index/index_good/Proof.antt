@@ -15,16 +15,16 @@ use Rattle.inspect.proofs.index.index_good.Statement.{statement}
 use Rattle.inspect.proofs.index.index_good.Tie as tie
 
 abbrev Inv-loop : tie.InvT-loop
-Inv-loop img drive s e f n own p good₀ i q m j₀ good j = (good ≡ true) × Indexed (pointerTest (partitionOf drive s e) (view img) f) (dataTest (partitionOf drive s e) (view img) f) (289 - low n) n (i + 1) (64 + 128 * i + j) (indexGood (partitionOf drive s e) (view img) f n)
+Inv-loop img p f n own pointers good₀ i q m j₀ good j = (good ≡ true) × Indexed (pointerTest p (view img) f) (dataTest p (view img) f) (289 - low n) n (i + 1) (64 + 128 * i + j) (indexGood p (view img) f n)
 
 abbrev μ-loop : tie.MeasureT-loop
-μ-loop img drive s e f n own p good₀ i q m j₀ good j = m - j
+μ-loop img p f n own pointers good₀ i q m j₀ good j = m - j
 
 abbrev Inv-index : tie.InvT-index
-Inv-index img drive s e f n own p good₀ i₀ good i = (good ≡ true) × Indexed (pointerTest (partitionOf drive s e) (view img) f) (dataTest (partitionOf drive s e) (view img) f) (289 - low n) n i (64 + 128 * i) (indexGood (partitionOf drive s e) (view img) f n)
+Inv-index img p f n own pointers good₀ i₀ good i = (good ≡ true) × Indexed (pointerTest p (view img) f) (dataTest p (view img) f) (289 - low n) n i (64 + 128 * i) (indexGood p (view img) f n)
 
 abbrev μ-index : tie.MeasureT-index
-μ-index img drive s e f n own p good₀ i₀ good i = p - i
+μ-index img p f n own pointers good₀ i₀ good i = pointers - i
 
 returns : tie.Need-returns Inv-loop μ-loop Inv-index μ-index
 unfolding indexGood

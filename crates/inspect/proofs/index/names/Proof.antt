@@ -1,4 +1,4 @@
-use mathlib.Core.Path.{sym, _∙_}
+use mathlib.Core.Path.{refl, sym, _∙_}
 use borrow.Author.Tests.{lt-ltb, le-ltb, le-leb, lt-leb, not-true, not-false}
 use Rattle.base.specs.Tests.{both, every}
 use Rattle.volume.specs.Files.{inside}
@@ -11,23 +11,23 @@ use Rattle.inspect.proofs.index.names.Tie as tie
 
 returns : tie.Need-returns
 unfolding names inside
-returns c = sym (every-no _ 1 (both-no _ _ (le-ltb _ _ (rw (c .before .lda-block .ensures .0) at (c .if1 .taken)))))
+returns c = sym (every-no _ 1 (both-no _ _ (le-ltb _ _ (rw (c .before .before .lda-block .ensures .0) at (c .if1 .taken)))))
 
 returns-2 : tie.Need-returns-2
 unfolding names inside
-returns-2 c = sym (every-no _ 1 (both-no-2 _ _ (lt-leb _ _ (rw (c .before .before .lda-block .ensures .0) at (c .if2 .taken)))))
+returns-2 c = sym (every-no _ 1 (both-no-2 _ _ (lt-leb _ _ (rw (c .before .before .before .before .lda-block .ensures .0) at (c .if2 .taken)))))
 
 returns-3 : tie.Need-returns-3
 unfolding names
-returns-3 c = sym (every-no _ 0 (sym (rw (c .before .before .before .before .lda-block .ensures .0) at (c .before .is-lda .ensures)) ∙ not-true _ (c .if3 .taken)))
+returns-3 c = sym (every-no _ 0 (sym (rw (c .before .before .before .before .before .before .lda-block .ensures .0) at (c .before .is-lda .ensures)) ∙ not-true _ (c .if3 .taken)))
 
 returns-4 : tie.Need-returns-4
 unfolding names
-returns-4 c = sym (every-no _ 2 (ne-of (rw (c .before .before .before .before .before .before .lda-block .ensures .0) at (c .before .pair .ensures .0)) (c .before .before .before .before .before .before .before .before .pre .1) (c .if4 .taken)))
+returns-4 c = sym (every-no _ 2 (ne-of (rw (c .before .before .before .before .before .before .before .before .lda-block .ensures .0) at (c .before .pair .ensures .0)) refl (c .if4 .taken)))
 
 returns-5 : tie.Need-returns-5
 unfolding names inside both every
-returns-5 c = let z = c .before .before .before .before .before .before .before .lda-block .ensures .0 in rw (sym (rw z at (c .before .before .before .before .is-lda .ensures)) ∙ not-false _ (c .before .before .before .if3 .left), lt-ltb _ _ (rw z at (c .before .before .before .before .before .before .if1 .left)), le-leb _ _ (rw z at (c .before .before .before .before .before .if2 .left)), eq-of (rw z at (c .before .before .pair .ensures .0)) (c .before .before .before .before .before .before .before .before .before .pre .1) (c .before .if4 .left)) (rw (self _ (c .before .before .before .before .before .before .before .before .before .pre .2)) at (c .has-number .ensures) ∙ rw z (sym (and-true _)))
+returns-5 c = let z = c .before .before .before .before .before .before .before .before .before .lda-block .ensures .0 in rw (sym (rw z at (c .before .before .before .before .is-lda .ensures)) ∙ not-false _ (c .before .before .before .if3 .left), lt-ltb _ _ (rw z at (c .before .before .before .before .before .before .before .if1 .left)), le-leb _ _ (rw z at (c .before .before .before .before .before .if2 .left)), eq-of (rw z at (c .before .before .pair .ensures .0)) refl (c .before .if4 .left)) (rw (self _ (c .before .before .before .before .before .before .before .before .before .before .before .pre .1)) at (c .has-number .ensures) ∙ rw z (sym (and-true _)))
 
 pub names-spec : {M : Type 1} → statement M
 names-spec =

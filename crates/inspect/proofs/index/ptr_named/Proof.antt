@@ -6,10 +6,10 @@ use Rattle.inspect.proofs.index.ptr_named.Statement.{statement}
 use Rattle.inspect.proofs.index.ptr_named.Tie as tie
 
 names-requires : tie.Need-names-requires
-names-requires c κs = (c .before .before .before .pre .0, c .before .before .before .pre .2, passed-fits _ _ (record { sfits = c .number-of .ok }) (c .number-of .ensures))
+names-requires c κs = (c .before .before .before .pre .0, passed-fits _ _ (record { sfits = c .number-of .ok }) (c .number-of .ensures))
 
 returns : tie.Need-returns
-returns c = rw (passed-word _ _ (record { sfits = c .before .number-of .ok }) (c .before .number-of .ensures) (number-small _), c .before .before .pair .ensures .0) at (c .names .ensures) ∙ sym (named-ptr _ _ _ _ (c .before .before .before .before .pre .3))
+returns c = rw (passed-word _ _ (record { sfits = c .before .number-of .ok }) (c .before .number-of .ensures) (number-small _), c .before .before .pair .ensures .0, c .before .before .before .before .pre .2) at (c .names .ensures) ∙ sym (named-ptr _ _ _ _ (c .before .before .before .before .pre .3))
 
 pub ptr-named-spec : {M : Type 1} → statement M
 ptr-named-spec =

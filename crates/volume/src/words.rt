@@ -1,4 +1,5 @@
-// Where the words of a record stand: the header, a pointer block's entries, a file block, and the partition information block.
+// Where the words of a record stand, as specs/Words.antt has them: the header, a pointer block's entries, a file block, and the partition
+// information block; and the relative number of a FIB.
 
 pub const SERIAL: usize = 0;
 
@@ -10,11 +11,17 @@ pub const NEXT: usize = 4;
 
 pub const PREVIOUS: usize = 6;
 
-pub const SLOT: usize = 8;
+pub const SLOTS: usize = 8;
+
+pub const FILE_TYPE: usize = 16;
 
 pub const DIRECT: usize = 60;
 
 pub const INDIRECT: usize = 188;
+
+pub const DOUBLE: usize = 252;
+
+pub const SECOND_DOUBLE: usize = 254;
 
 pub const KIND: usize = 256;
 
@@ -34,5 +41,10 @@ pub const FREE_TAIL: usize = 10;
 
 pub const NUMBER_FREE: usize = 12;
 
-// The relative number -1 of a FIB, and L = -1 of an empty file.
-pub const FIB: usize = 65535;
+pub const ROOT: usize = 14;
+
+pub const PARTITION_START: usize = 126;
+
+pub const PARTITION_END: usize = 128;
+
+pub const FIB: i32 = -1;
