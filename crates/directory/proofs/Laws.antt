@@ -7,16 +7,17 @@ use native.Mathlib.Omega.{arith}
 use lib.ListN.{length}
 use Rattle.base.specs.Laws.{both-right}
 use Rattle.image.specs.Image.{view}
-use Rattle.volume.specs.Files.{partitionOf, isFile}
+use Rattle.volume.specs.Files.{isFile}
+use Rattle.volume.specs.declared.Partition.{Partition}
 use Rattle.volume.specs.Reads.{Lies}
 use Rattle.inspect.specs.Parts.{Opened}
 use Rattle.inspect.proofs.Laws.{wf-opened}
 use Rattle.directory.specs.Paths.{file-in}
 
-module _ (d : ℕ) (l : List ℕ) (s e : ℕ) (i : Lies (partitionOf d s e) l) (f : ℕ) (h : isFile (partitionOf d s e) (view l) f ≡ true) where
+module _ (π : Partition) (l : List ℕ) (i : Lies π l) (f : ℕ) (h : isFile π (view l) f ≡ true) where
   pub file-inside : 528 * f + 528 ≤ length l
-  file-inside = let z = file-in (partitionOf d s e) l f h in let w = i .within in omega arith
+  file-inside = let z = file-in π l f h in let w = i .within in omega arith
 
-  pub file-opened : Opened (partitionOf d s e) l f
+  pub file-opened : Opened π l f
   unfolding isFile
-  file-opened = wf-opened f i (file-in (partitionOf d s e) l f h) (both-right _ _ h)
+  file-opened = wf-opened f i (file-in π l f h) (both-right _ _ h)

@@ -148,19 +148,19 @@ pub ruleset takes = (taken-even, taken-short, taken-long, taken-last, needs)
 
 -- ---- the target of an address
 
-module _ (d s e : ℕ) (l : List ℕ) (x t y : ℕ) (p : t ≡ ldaBlock d x) (q : y ≡ lda d t) where
-  pub target-odd : (y ≡ x → ⊥) → Nothing ≡ fileAt (partitionOf d s e) l x
+module _ (π : Partition) (l : List ℕ) (x t y : ℕ) (p : t ≡ ldaBlock (π .drive) x) (q : y ≡ lda (π .drive) t) where
+  pub target-odd : (y ≡ x → ⊥) → Nothing ≡ fileAt π l x
   unfolding fileAt both isLda
-  target-odd h = rw (fileAt, isLda, ne-eqb x (lda d (ldaBlock d x)) (λ z. h (q ∙ ap (lda d) p ∙ sym z)), both)
+  target-odd h = rw (fileAt, isLda, ne-eqb x (lda (π .drive) (ldaBlock (π .drive) x)) (λ z. h (q ∙ ap (lda (π .drive)) p ∙ sym z)), both)
 
-  known : (r : Bool) → r ≡ isFile (partitionOf d s e) (view l) t → y ≡ x → pick r (At t) Nothing ≡ fileAt (partitionOf d s e) l x
+  known : (r : Bool) → r ≡ isFile π (view l) t → y ≡ x → pick r (At t) Nothing ≡ fileAt π l x
   unfolding fileAt both isLda
-  known r z h = rw (fileAt, isLda, eq-eqb x (lda d (ldaBlock d x)) (sym h ∙ q ∙ ap (lda d) p), both, ← p, ← z)
+  known r z h = rw (fileAt, isLda, eq-eqb x (lda (π .drive) (ldaBlock (π .drive) x)) (sym h ∙ q ∙ ap (lda (π .drive)) p), both, ← p, ← z)
 
-  pub target-file : (r : Bool) → r ≡ isFile (partitionOf d s e) (view l) t → r ≡ true → y ≡ x → At t ≡ fileAt (partitionOf d s e) l x
+  pub target-file : (r : Bool) → r ≡ isFile π (view l) t → r ≡ true → y ≡ x → At t ≡ fileAt π l x
   target-file r z u h = rw u at (known r z h)
 
-  pub target-none : (r : Bool) → r ≡ isFile (partitionOf d s e) (view l) t → r ≡ false → y ≡ x → Nothing ≡ fileAt (partitionOf d s e) l x
+  pub target-none : (r : Bool) → r ≡ isFile π (view l) t → r ≡ false → y ≡ x → Nothing ≡ fileAt π l x
   target-none r z u h = rw u at (known r z h)
 
 pub ruleset targets = (target-odd, target-file, target-none, needs)

@@ -59,10 +59,10 @@ fn look(img: &[u8], p: Partition, rule: &[u8], root: usize, path: &[u8]) -> Look
 {
     let n = path.len();
     let mut f = root;
-    let mut p = 0;
+    let mut at = 0;
     for d in 0usize..9 {
-        let q = part_end(path, p);
-        let x = enter(img, p, rule, f, &path[p..q]);
+        let q = part_end(path, at);
+        let x = enter(img, p, rule, f, &path[at..q]);
         match x {
             Looked::File(t) => {
                 if n <= q {
@@ -72,7 +72,7 @@ fn look(img: &[u8], p: Partition, rule: &[u8], root: usize, path: &[u8]) -> Look
                     return Looked::Absent;
                 }
                 f = t;
-                p = q + 1;
+                at = q + 1;
                 continue;
             }
             Looked::Dangling => {

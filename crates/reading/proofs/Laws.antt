@@ -40,7 +40,7 @@ module _ (d : ℕ) (l : List ℕ) (s f r n : ℕ) where
       go : (q : Part) → partition d l s ≡ q → (t : Bool) → eqb n 512 ≡ t → (at + 512 ≤ length l) × (n ≡ 512)
       go (part.Refused y) j t i = let k = rw (j, readFrom) at h in let z : _≡_ {A = ℕ} 0 1 = cc in absurd (omega arith)
       go (Good e) j false i = let k = rw (j, readFrom, i) at h in let z : _≡_ {A = ℕ} 0 1 = cc in absurd (omega arith)
-      go (Good e) j true i = let k = rw (j, readFrom, i) at h in (shown-at d l s e f r at x z (lies d l s e j) k, eqb-true n 512 i)
+      go (Good e) j true i = let k = rw (j, readFrom, i) at h in (shown-at (partitionOf d s e) l f r at x z (lies d l s e j) k, eqb-true n 512 i)
 
   pub read-absent : readFrom d l s f r n ≡ Absent → n ≡ 512
   unfolding readFrom

@@ -18,11 +18,11 @@ abbrev μ-loop : tie.MeasureT-loop
 
 returns : tie.Need-returns Inv-loop μ-loop
 unfolding fileAbove
-returns c = let a = c .before .before .before .args in let q : c .before .most .result ≡ pick (ltb (a .b) (a .s)) (a .s) (a .b) = c .before .most .ensures in rw (← q) (lowest-nothing _ _ _ (omega arith))
+returns c = let a = c .before .before .before .before .args in let q : c .before .before .most .result ≡ pick (ltb (a .b) (a .p .s)) (a .p .s) (a .b) = c .before .before .most .ensures in rw (← q) (lowest-nothing _ _ _ (omega arith))
 
 loop-holds : tie.Need-loop-holds Inv-loop μ-loop
 unfolding fileAbove
-loop-holds c = let a = c .before .before .before .args in let q : c .before .most .result ≡ pick (ltb (a .b) (a .s)) (a .s) (a .b) = c .before .most .ensures in rw (← q) (search-starts-as _ _ _ _ (omega arith))
+loop-holds c = let a = c .before .before .before .before .before .args in let q : c .before .before .before .most .result ≡ pick (ltb (a .b) (a .p .s)) (a .p .s) (a .b) = c .before .before .before .most .ensures in rw (← q) (search-starts-as _ _ _ _ (omega arith))
 
 pub file-above-spec : {M : Type 1} → statement M
 file-above-spec =

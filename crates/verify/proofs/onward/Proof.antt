@@ -16,19 +16,19 @@ returns c = rw (eq-eqb _ _ (c .if1 .taken), onward)
 
 returns-2 : tie.Need-returns-2
 unfolding onward inside
-returns-2 c = rw (ne-eqb _ _ (c .before .before .if1 .left), both-no _ (eqb _ _) (both-no _ (leb _ _) (le-ltb _ _ (rw (c .before .pda-block .ensures .0) at (c .if2 .taken)))), onward)
+returns-2 c = rw (ne-eqb _ _ (c .before .before .before .if1 .left), both-no _ (eqb _ _) (both-no _ (leb _ _) (le-ltb _ _ (rw (c .before .before .pda-block .ensures .0) at (c .if2 .taken)))), onward)
 
 returns-3 : tie.Need-returns-3
 unfolding onward inside
-returns-3 c = rw (ne-eqb _ _ (c .before .before .before .if1 .left), both-no _ (eqb _ _) (both-no-2 (ltb _ _) _ (lt-leb _ _ (rw (c .before .before .pda-block .ensures .0) at (c .if3 .taken)))), onward)
+returns-3 c = rw (ne-eqb _ _ (c .before .before .before .before .before .if1 .left), both-no _ (eqb _ _) (both-no-2 (ltb _ _) _ (lt-leb _ _ (rw (c .before .before .before .before .pda-block .ensures .0) at (c .if3 .taken)))), onward)
 
 returns-4 : tie.Need-returns-4
 unfolding onward inside both
-returns-4 c = let z = c .before .before .before .before .pda-block .ensures .0 in rw (ne-eqb _ _ (c .before .before .before .before .before .if1 .left), lt-ltb _ _ (rw z at (c .before .before .before .if2 .left)), le-leb _ _ (rw z at (c .before .before .if3 .left)), eq-of (rw z at (c .before .pda .ensures)) refl (c .if4 .taken), onward, both, z)
+returns-4 c = let z = c .before .before .before .before .before .before .pda-block .ensures .0 in rw (ne-eqb _ _ (c .before .before .before .before .before .before .before .if1 .left), lt-ltb _ _ (rw z at (c .before .before .before .before .if2 .left)), le-leb _ _ (rw z at (c .before .before .if3 .left)), eq-of (rw z at (c .before .pda .ensures)) refl (c .if4 .taken), onward, both, z)
 
 returns-5 : tie.Need-returns-5
 unfolding onward inside
-returns-5 c = let z = c .before .before .before .before .pda-block .ensures .0 in rw (ne-eqb _ _ (c .before .before .before .before .before .if1 .left), both-no-2 (both (ltb _ _) (leb _ _)) _ (ne-of (rw z at (c .before .pda .ensures)) refl (c .if4 .left)), onward)
+returns-5 c = let z = c .before .before .before .before .before .before .pda-block .ensures .0 in rw (ne-eqb _ _ (c .before .before .before .before .before .before .before .if1 .left), both-no-2 (both (ltb _ _) (leb _ _)) _ (ne-of (rw z at (c .before .pda .ensures)) refl (c .if4 .left)), onward)
 
 pub onward-spec : {M : Type 1} → statement M
 onward-spec =

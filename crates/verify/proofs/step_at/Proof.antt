@@ -13,11 +13,11 @@ returns c = rw (sym (c .before .owned .ensures) ∙ c .if1 .taken, stepAt)
 
 returns-2 : tie.Need-returns-2
 unfolding stepAt
-returns-2 c = rw (sym (c .before .before .before .before .before .before .owned .ensures) ∙ c .before .before .before .before .before .if1 .left, eq-of (c .before .before .before .before .pair .ensures .0) (c .before .before .before .or-nil .ensures) (c .before .before .if2 .taken), stepAt, ← c .before .pair2 .ensures .0) (c .onward .ensures)
+returns-2 c = rw (sym (c .before .before .before .before .before .before .owned .ensures) ∙ c .before .before .before .before .before .if1 .left, eq-of (c .before .before .before .before .pair .ensures .0) (c .before .before .before .or-nil .ensures .0) (c .before .before .if2 .taken), stepAt, ← c .before .pair2 .ensures .0) (c .onward .ensures)
 
 returns-3 : tie.Need-returns-3
 unfolding stepAt
-returns-3 c = rw (sym (c .before .before .before .before .owned .ensures) ∙ c .before .before .before .if1 .left, ne-of (c .before .before .pair .ensures .0) (c .before .or-nil .ensures) (c .if2 .left), stepAt)
+returns-3 c = rw (sym (c .before .before .before .before .owned .ensures) ∙ c .before .before .before .if1 .left, ne-of (c .before .before .pair .ensures .0) (c .before .or-nil .ensures .0) (c .if2 .left), stepAt)
 
 pub step-at-spec : {M : Type 1} → statement M
 step-at-spec =

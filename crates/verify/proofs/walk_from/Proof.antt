@@ -15,13 +15,13 @@ abbrev μ-loop : tie.MeasureT-loop
 μ-loop img p head most before₀ b₀ n₀ before b n = most - n
 
 sub-most : tie.Need-sub-most Inv-loop μ-loop
-sub-most c = let i = c .before .pre .0 in omega (arith, i .order)
+sub-most c = let i = c .before .before .pre .0 in omega (arith, i .order)
 
 loop-holds : tie.Need-loop-holds Inv-loop μ-loop
-loop-holds c = walk-starts _ _ _ (c .before .pre .1)
+loop-holds c = walk-starts _ _ _ (c .before .before .pre .1)
 
 step-at-requires : tie.Need-step-at-requires Inv-loop μ-loop
-step-at-requires c κs = let h = c .before .before .before .pre in (h .0, c .before .loop .inv .here, c .before .loop .inv .back, h .2)
+step-at-requires c κs = let h = c .before .before .before .before .pre in (h .0, c .before .loop .inv .here, c .before .loop .inv .back, h .2)
 
 loop-again : tie.Need-loop-again Inv-loop μ-loop
 loop-again c = walk-on (c .before .before .before .before .before .loop .inv) (c .before .before .before .before .if1 .left) (c .before .before .before .step-at .ensures) (c .before .x .given .1)

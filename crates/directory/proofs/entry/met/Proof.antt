@@ -6,7 +6,7 @@ use Rattle.directory.proofs.entry.met.Statement.{statement}
 use Rattle.directory.proofs.entry.met.Tie as tie
 
 is-directory-requires : tie.Need-is-directory-requires
-is-directory-requires c κs = file-inside _ _ _ _ (c .before .before .before .before .before .before .before .before .before .before .pre .0 .lies) _ (file-at _ _ _ _ (sym (c .before .before .before .file-at .ensures) ∙ c .before .x .given .1))
+is-directory-requires c κs = file-inside _ _ (c .before .before .before .before .before .before .before .before .before .before .pre .0 .lies) _ (file-at _ _ _ _ (sym (c .before .before .before .file-at .ensures) ∙ c .before .x .given .1))
 
 pub met-spec : {M : Type 1} → statement M
 met-spec =

@@ -1,6 +1,5 @@
 use Prim.Native.Nat.{_+_, _-_, _*_, _≤_}
 use native.Mathlib.Omega.{arith}
-use Rattle.volume.specs.Files.{partitionOf}
 use Rattle.volume.specs.Steps.{Searching, search-end}
 use Rattle.directory.specs.Directory as defs
 use Rattle.directory.specs.Paths.{find-starts, find-to, find-hit, find-next}
@@ -8,13 +7,13 @@ use Rattle.directory.proofs.find.find.Statement.{statement}
 use Rattle.directory.proofs.find.find.Tie as tie
 
 abbrev Inv-loop2 : tie.InvT-loop2
-Inv-loop2 img p rule f part k r b i₀ i = let π = partitionOf (p .drive) s e in (Searching (defs.hit π img (defs.selected rule) part f) (16 * k) (16 * r + i) (defs.find π img (defs.selected rule) part f)) × (i ≤ 16)
+Inv-loop2 img p rule f part k r b i₀ i = (Searching (defs.hit p img (defs.selected rule) part f) (16 * k) (16 * r + i) (defs.find p img (defs.selected rule) part f)) × (i ≤ 16)
 
 abbrev μ-loop2 : tie.MeasureT-loop2
 μ-loop2 img p rule f part k r b i₀ i = 16 - i
 
 abbrev Inv-loop : tie.InvT-loop
-Inv-loop img p rule f part k r₀ r = let π = partitionOf (p .drive) s e in (Searching (defs.hit π img (defs.selected rule) part f) (16 * k) (16 * r) (defs.find π img (defs.selected rule) part f)) × (r ≤ k)
+Inv-loop img p rule f part k r₀ r = (Searching (defs.hit p img (defs.selected rule) part f) (16 * k) (16 * r) (defs.find p img (defs.selected rule) part f)) × (r ≤ k)
 
 abbrev μ-loop : tie.MeasureT-loop
 μ-loop img p rule f part k r₀ r = k - r
@@ -47,14 +46,14 @@ has-name-requires :
     tie.Need-has-name-requires Inv-loop2 μ-loop2 Inv-loop μ-loop
 has-name-requires c κs = ((let i = c .before .before .before .before .before .before .before .before .before .pre .0 .lies .within in let n = c .before .before .name .ensures .1 in let t = c .loop2-test .taken in omega arith), c .before .before .before .before .before .before .before .before .before .pre .1)
 
-mul-t19 : tie.Need-mul-t19 Inv-loop2 μ-loop2 Inv-loop μ-loop
-mul-t19 c = let s = c .before .before .before .before .before .before .before .len .ensures .1 in let t = c .before .before .before .before .before .loop-test .taken in omega arith
+mul-t17 : tie.Need-mul-t17 Inv-loop2 μ-loop2 Inv-loop μ-loop
+mul-t17 c = let s = c .before .before .before .before .before .before .before .len .ensures .1 in let t = c .before .before .before .before .before .loop-test .taken in omega arith
 
-add-t20 : tie.Need-add-t20 Inv-loop2 μ-loop2 Inv-loop μ-loop
-add-t20 c = let s = c .before .before .before .before .before .before .before .len .ensures .1 in let t = c .before .before .before .before .before .loop-test .taken in let j = c .before .before .loop2-test .taken in omega arith
+add-t18 : tie.Need-add-t18 Inv-loop2 μ-loop2 Inv-loop μ-loop
+add-t18 c = let s = c .before .before .before .before .before .before .before .len .ensures .1 in let t = c .before .before .before .before .before .loop-test .taken in let j = c .before .before .loop2-test .taken in omega arith
 
 returns : tie.Need-returns Inv-loop2 μ-loop2 Inv-loop μ-loop
-returns c = find-hit (partitionOf (c .before .before .before .before .before .before .before .before .before .before .before .args .drive) (c .before .before .before .before .before .before .before .before .before .before .before .args .s) (c .before .before .before .before .before .before .before .before .before .before .before .args .e)) _ _ _ (c .before .before .before .before .before .before .before .before .before .before .before .args .f) (c .before .before .before .before .before .before .before .len .result) _ _ _ (c .before .before .before .loop2 .inv .0) (c .before .before .loop2-test .taken) (c .before .before .before .before .before .loop-test .taken) (c .before .before .before .before .name .ensures .0) (c .before .has-name .ensures) (c .if1 .taken)
+returns c = find-hit (c .before .before .before .before .before .before .before .before .before .before .before .args .p) _ _ _ (c .before .before .before .before .before .before .before .before .before .before .before .args .f) (c .before .before .before .before .before .before .before .len .result) _ _ _ (c .before .before .before .loop2 .inv .0) (c .before .before .loop2-test .taken) (c .before .before .before .before .before .loop-test .taken) (c .before .before .before .before .name .ensures .0) (c .before .has-name .ensures) (c .if1 .taken)
 
 add-i : tie.Need-add-i Inv-loop2 μ-loop2 Inv-loop μ-loop
 add-i c = let t = c .before .before .loop2-test .taken in omega arith
@@ -63,7 +62,7 @@ loop2-less : tie.Need-loop2-less Inv-loop2 μ-loop2 Inv-loop μ-loop
 loop2-less c = let t = c .before .before .loop2-test .taken in omega arith
 
 loop2-again : tie.Need-loop2-again Inv-loop2 μ-loop2 Inv-loop μ-loop
-loop2-again c = (find-next (partitionOf (c .before .before .before .before .before .before .before .before .before .before .before .args .drive) (c .before .before .before .before .before .before .before .before .before .before .before .args .s) (c .before .before .before .before .before .before .before .before .before .before .before .args .e)) _ _ _ (c .before .before .before .before .before .before .before .before .before .before .before .args .f) (c .before .before .before .before .before .before .before .len .result) _ _ _ (c .before .before .before .loop2 .inv .0) (c .before .before .loop2-test .taken) (c .before .before .before .before .before .loop-test .taken) (c .before .before .before .before .name .ensures .0) (c .before .has-name .ensures) (c .if1 .left), (let t = c .before .before .loop2-test .taken in omega arith))
+loop2-again c = (find-next (c .before .before .before .before .before .before .before .before .before .before .before .args .p) _ _ _ (c .before .before .before .before .before .before .before .before .before .before .before .args .f) (c .before .before .before .before .before .before .before .len .result) _ _ _ (c .before .before .before .loop2 .inv .0) (c .before .before .loop2-test .taken) (c .before .before .before .before .before .loop-test .taken) (c .before .before .before .before .name .ensures .0) (c .before .has-name .ensures) (c .if1 .left), (let t = c .before .before .loop2-test .taken in omega arith))
 
 add-r : tie.Need-add-r Inv-loop2 μ-loop2 Inv-loop μ-loop
 add-r c = let s = c .before .before .before .before .before .len .ensures .1 in let t = c .before .before .before .loop-test .taken in omega arith
@@ -94,8 +93,8 @@ find-spec =
     mul-has-name-2
     add-has-name-2
     has-name-requires
-    mul-t19
-    add-t20
+    mul-t17
+    add-t18
     returns
     add-i
     loop2-less

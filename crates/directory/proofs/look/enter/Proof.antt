@@ -7,10 +7,10 @@ use Rattle.directory.proofs.look.enter.Statement.{statement}
 use Rattle.directory.proofs.look.enter.Tie as tie
 
 find-requires : tie.Need-find-requires
-find-requires c κs = (file-opened _ _ _ _ (c .before .before .before .pre .0) _ (c .before .before .before .pre .2), c .before .before .before .pre .1)
+find-requires c κs = (file-opened _ _ (c .before .before .before .pre .0) _ (c .before .before .before .pre .2), c .before .before .before .pre .1)
 
 name-requires : tie.Need-name-requires
-name-requires c κs = (file-opened _ _ _ _ (c .before .before .before .before .before .before .before .pre .0) _ (c .before .before .before .before .before .before .before .pre .2), (let z = found-below _ _ _ _ _ _ (sym (c .before .before .before .find .ensures) ∙ c .before .x .given .1) in omega arith))
+name-requires c κs = (file-opened _ _ (c .before .before .before .before .before .before .before .pre .0) _ (c .before .before .before .before .before .before .before .pre .2), (let z = found-below _ _ _ _ _ _ (sym (c .before .before .before .find .ensures) ∙ c .before .x .given .1) in omega arith))
 
 returns : tie.Need-returns
 returns c = enter-absent _ _ _ _ _ (c .before .before .find .ensures) (c .enum-told .given .1)

@@ -3,7 +3,6 @@ use mathlib.Core.Path.{refl, sym, _∙_}
 use Prim.Native.Nat.{_-_}
 use native.Mathlib.Omega.{arith}
 use borrow.Author.Tests.{not-true, not-false}
-use Rattle.volume.specs.Files.{partitionOf}
 use Rattle.directory.specs.Directory as defs
 use Rattle.directory.specs.Paths.{Looking, look-beyond, look-absent, look-odd, look-dangling, look-dangling-on, look-file, look-plain, look-next, entered-file}
 use Rattle.directory.proofs.Laws.{file-inside}
@@ -11,10 +10,10 @@ use Rattle.directory.proofs.look.look.Statement.{statement}
 use Rattle.directory.proofs.look.look.Tie as tie
 
 abbrev Inv-loop : tie.InvT-loop
-Inv-loop img p rule root path n f₀ p₀ d₀ f p d = let π = partitionOf (p .drive) s e in Looking π img (defs.selected rule) path d p f (defs.look π img (defs.selected rule) 9 path 0 root)
+Inv-loop img p rule root path n f₀ at₀ d₀ f at d = Looking p img (defs.selected rule) path d at f (defs.look p img (defs.selected rule) 9 path 0 root)
 
 abbrev μ-loop : tie.MeasureT-loop
-μ-loop img p rule root path n f₀ p₀ d₀ f p d = 9 - d
+μ-loop img p rule root path n f₀ at₀ d₀ f at d = 9 - d
 
 loop-holds : tie.Need-loop-holds Inv-loop μ-loop
 loop-holds c = record { left = refl; file = c .before .before .before .pre .2; low = omega arith; few = omega arith }
@@ -38,13 +37,13 @@ returns : tie.Need-returns Inv-loop μ-loop
 returns c = look-file (c .before .before .before .before .before .before .before .before .loop .inv) (c .before .before .before .before .before .before .before .loop-test .taken) (c .before .before .before .before .before .before .part-end .ensures .0) (c .before .before .before .before .enter .ensures) (c .before .before .x .given .1) (c .if1 .taken)
 
 is-directory-requires : tie.Need-is-directory-requires Inv-loop μ-loop
-is-directory-requires c κs = file-inside _ _ _ _ (c .before .before .before .before .before .before .before .before .before .before .before .before .pre .0) _ (entered-file _ _ _ _ _ _ (sym (c .before .before .before .before .enter .ensures) ∙ c .before .before .x .given .1))
+is-directory-requires c κs = file-inside _ _ (c .before .before .before .before .before .before .before .before .before .before .before .before .pre .0) _ (entered-file _ _ _ _ _ _ (sym (c .before .before .before .before .enter .ensures) ∙ c .before .before .x .given .1))
 
 returns-2 : tie.Need-returns-2 Inv-loop μ-loop
 returns-2 c = look-plain (c .before .before .before .before .before .before .before .before .before .before .loop .inv) (c .before .before .before .before .before .before .before .before .before .loop-test .taken) (c .before .before .before .before .before .before .before .before .part-end .ensures .0) (c .before .before .before .before .before .before .enter .ensures) (c .before .before .before .before .x .given .1) (c .before .before .if1 .left) (c .before .is-directory .ensures) (not-true _ (c .if2 .taken))
 
-add-p : tie.Need-add-p Inv-loop μ-loop
-add-p c = let z = c .before .before .if1 .left in omega arith
+add-at : tie.Need-add-at Inv-loop μ-loop
+add-at c = let z = c .before .before .if1 .left in omega arith
 
 add-d : tie.Need-add-d Inv-loop μ-loop
 add-d c = let z = c .before .before .before .before .before .before .before .before .before .loop-test .taken in omega arith
@@ -86,7 +85,7 @@ look-spec =
     returns
     is-directory-requires
     returns-2
-    add-p
+    add-at
     add-d
     loop-less
     loop-again

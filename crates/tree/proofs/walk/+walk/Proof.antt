@@ -21,7 +21,7 @@ use Rattle.tree.proofs.walk.+walk.{statement}
 use Rattle.tree.proofs.walk.+walk.Tie.{close}
 
 abbrev μ-walk : Measures 3 walk-kinds.ps ℕ
-μ-walk κs a = a .1 .1 .1 .1 .1 .1 .0
+μ-walk κs a = a .1 .1 .1 .1 .0
 
 abbrev walk-at : ℕ → In 3 walk-kinds.ps
 walk-at t = and 3 walk-kinds.ps (is 3 walk-kinds.ps μ-walk t) walk.Pre
@@ -30,14 +30,13 @@ abbrev walk-below : ℕ → In 3 walk-kinds.ps
 walk-below t = and 3 walk-kinds.ps (falls 3 walk-kinds.ps _<_ μ-walk t) walk.Pre
 
 abbrev walk-Inv-loop : walk-lts.InvT-loop
-walk-Inv-loop rows₀ img drive s e rule left f most n on below level end at₀ j₀ rows at j =
-    let π = partitionOf drive s e in
+walk-Inv-loop rows₀ img p rule left f most n on below level end at₀ j₀ rows at j =
     let sel = selected rule in
-    let whole = tree π img sel left f in
-    Leaves most on (length rows₀) (lay rows₀ (32 * n) (writes on (most - n) whole)) (walked most whole n) (entries π img sel (tree π img sel below) level f j (end - j)) at rows
+    let whole = tree p img sel left f in
+    Leaves most on (length rows₀) (lay rows₀ (32 * n) (writes on (most - n) whole)) (walked most whole n) (entries p img sel (tree p img sel below) level f j (end - j)) at rows
 
 abbrev walk-μ-loop : walk-lts.MeasureT-loop
-walk-μ-loop rows₀ img drive s e rule left f most n on below level end at₀ j₀ rows at j = end - j
+walk-μ-loop rows₀ img p rule left f most n on below level end at₀ j₀ rows at j = end - j
 
 pub +walk-spec : {M : Type 1} → statement M
 +walk-spec = close μ-walk λ t. walk-lts.spec (
@@ -56,10 +55,10 @@ pub +walk-spec : {M : Type 1} → statement M
     walk-μ-loop
     (λ c. walk-deep _ _ _ _ _ (leaves-all _ (c .before .before .before .before .args .on) _ _ _ (c .before .before .before .before .pre .1 .4)) (c .if1 .taken))  -- returns
     (λ c. let z = c .before .before .before .before .pre .1 .3 in omega arith)  -- sub-level
-    (λ c κs. file-inside _ _ _ _ (c .before .before .before .before .pre .1 .0) _ (c .before .before .before .before .pre .1 .2))  -- len-requires
+    (λ c κs. file-inside _ _ (c .before .before .before .before .pre .1 .0) _ (c .before .before .before .before .pre .1 .2))  -- len-requires
     (λ c. search needs)  -- mul-end
     (λ c. walk-starts _ _ _ _ _ _ _ _ (leaves-all _ _ _ _ _ (c .before .before .before .before .before .pre .1 .4)) (let z = c .before .if1 .left in omega arith) (let z = c .before .if1 .left in omega arith) (ap (λ (k : ℕ). 16 * k) (c .len .ensures .0)))  -- loop-holds
-    (λ c κs. (file-opened _ _ _ _ (c .before .before .before .before .before .before .before .pre .1 .0) _ (c .before .before .before .before .before .before .before .pre .1 .2), (rw (ap (λ (k : ℕ). 16 * k) (c .before .before .len .ensures .0)) at (c .loop-test .taken)), c .before .before .before .before .before .before .before .pre .1 .1))  -- met-requires
+    (λ c κs. (file-opened _ _ (c .before .before .before .before .before .before .before .pre .1 .0) _ (c .before .before .before .before .before .before .before .pre .1 .2), (rw (ap (λ (k : ℕ). 16 * k) (c .before .before .len .ensures .0)) at (c .loop-test .taken)), c .before .before .before .before .before .before .before .pre .1 .1))  -- met-requires
     (λ c. search needs)  -- enum-told
     (λ c. search needs)  -- add-j
     (λ c. search needs)  -- loop-less
@@ -67,7 +66,7 @@ pub +walk-spec : {M : Type 1} → statement M
     (λ c. search needs)  -- enum-known-x
     (λ c. c .before .before .before .before .before .before .loop .inv .long)  -- same-length
     (λ c. walk-full _ _ _ _ _ _ _ _ (c .before .before .before .before .before .before .loop .inv) (c .before .before .before .before .before .loop-test .taken) (c .before .before .before .before .met .ensures) (c .before .before .x .given .1) (c .if2 .taken))  -- returns-2
-    (λ c κs. (file-opened _ _ _ _ (c .before .before .before .before .before .before .before .before .before .before .before .before .before .pre .1 .0) _ (c .before .before .before .before .before .before .before .before .before .before .before .before .before .pre .1 .2), (rw (ap (λ (k : ℕ). 16 * k) (c .before .before .before .before .before .before .before .before .len .ensures .0)) at (c .before .before .before .before .before .before .loop-test .taken)), met-short _ _ _ _ _ _ _ (sym (c .before .before .before .before .before .met .ensures) ∙ c .before .before .before .x .given .1), (omega arith), (let z = met-what _ _ _ _ _ _ _ (sym (c .before .before .before .before .before .met .ensures) ∙ c .before .before .before .x .given .1) in omega arith), (let z = c .before .if2 .left in let i = c .before .before .before .before .before .before .before .loop .inv .long in let r = c .before .before .before .before .before .before .before .before .before .before .before .before .before .pre .1 .4 in omega arith)))  -- entry-row-requires
+    (λ c κs. (file-opened _ _ (c .before .before .before .before .before .before .before .before .before .before .before .before .before .pre .1 .0) _ (c .before .before .before .before .before .before .before .before .before .before .before .before .before .pre .1 .2), (rw (ap (λ (k : ℕ). 16 * k) (c .before .before .before .before .before .before .before .before .len .ensures .0)) at (c .before .before .before .before .before .before .loop-test .taken)), met-short _ _ _ _ _ _ _ (sym (c .before .before .before .before .before .met .ensures) ∙ c .before .before .before .x .given .1), (omega arith), (let z = met-what _ _ _ _ _ _ _ (sym (c .before .before .before .before .before .met .ensures) ∙ c .before .before .before .x .given .1) in omega arith), (let z = c .before .if2 .left in let i = c .before .before .before .before .before .before .before .loop .inv .long in let r = c .before .before .before .before .before .before .before .before .before .before .before .before .before .pre .1 .4 in omega arith)))  -- entry-row-requires
     (λ c. let z = c .before .before .before .before .if2 .left in let m = c .before .before .before .before .before .before .before .before .before .before .before .before .before .before .before .before .pre .1 .5 in omega arith)  -- add-at
     (λ c. search needs)  -- add-j-2
     (λ c. search needs)  -- loop-less-2
