@@ -12,9 +12,9 @@ use Rattle.drive.specs.Address.{pda}
 use Rattle.image.specs.View.{View, Rec, put2}
 use Rattle.image.specs.Image.{view}
 use Rattle.volume.specs.Words.{nextAt, previousAt}
-use Rattle.volume.specs.Keys.{home, low}
+use Rattle.volume.specs.Keys.{home, number, low}
 use Rattle.volume.specs.KeyLaws.{low-pos}
-use Rattle.volume.specs.Files.{partitionOf, spot, present}
+use Rattle.volume.specs.Files.{spot, present}
 use Rattle.volume.specs.declared.Partition.{Partition}
 use Rattle.volume.specs.Index.{present-home}
 use Rattle.volume.specs.Order.{least-present}
@@ -27,6 +27,7 @@ use Rattle.records.proofs.Laws.{block-in}
 use Rattle.append.specs.Numbers.{grows, stays-at}
 use Rattle.append.specs.Grown.{new-is, spot-is, present-is, range-is, above-is, below-is}
 use Rattle.append.specs.Bodies.{stamped, pointerBase}
+use Rattle.append.specs.declared.Append.{Append}
 use Rattle.append.specs.Growing.{Growing, tied}
 
 or-left : (a b : Bool) → a ≡ true → (a || b) ≡ true
@@ -46,16 +47,27 @@ module _ (π : Partition) (v : View) (f n q k : ℕ) (x : Rec) (h : k ≡ low (n
   unfolding pointerBase
   base-old g p = p ∙ ap (λ (j : ℕ). v (spot π v f j)) h ∙ sym (ap (pointerBase π v f n q) g)
 
+-- the number of the last block is its key's
+pub number-last : (n : ℕ) → n < 4160 → number (292 + n) ≡ n
+unfolding number
+number-last n h = omega arith
+
 -- a direct entry lies in the record
 pub direct-in : (n : ℕ) → ltb n 64 ≡ true → 60 + 2 * n < 263
 direct-in n h = let j = ltb-true n 64 h in omega arith
 
-module _ {d : ℕ} {l : List ℕ} {s e f n a q : ℕ} (G : Growing d l s e f n a q) where
+module _ {w : Append} {l : List ℕ} (G : Growing w l) where
   abbrev π : Partition
-  π = partitionOf d s e
+  π = w .p
 
   abbrev v : View
   v = view l
+
+  abbrev f : ℕ
+  f = w .f
+
+  abbrev n : ℕ
+  n = w .n
 
   short : n + 1 ≤ 4160
   short = omega (arith, G .far)
@@ -105,32 +117,32 @@ module _ {d : ℕ} {l : List ℕ} {s e f n a q : ℕ} (G : Growing d l s e f n a
         → spot′ π v f n k ≡ pick t (freeAt π v 0) (pick u (freeAt π v 1) (spot π v f k))
     stands-at t u p r = spot-is π v f n (G .opened .formed) (G .next) (G .far) k ∙ ap₂ (λ (x y : Bool). pick x (freeAt π v 0) (pick y (freeAt π v 1) (spot π v f k))) p r
 
-    pub at-data : k ≡ 292 + n → (a ≡ spot′ π v f n k) × Block l a
+    pub at-data : k ≡ 292 + n → (w .a ≡ spot′ π v f n k) × Block l (w .a)
     at-data h = (G .first ∙ sym (stands-at true (grows n && eqb k (low (n + 1))) (eq-eqb k (292 + n) h) refl), G .a-in)
 
     module _ (ne : k ≢ 292 + n) (g : Bool) (top : ℕ) (hg : g ≡ grows n) (ht : top ≡ low (n + 1)) where
       new : (t : Bool) → (g && eqb k top) ≡ t → (grows n && eqb k (low (n + 1))) ≡ t
       new t h = ap₂ (λ (x : Bool) (y : ℕ). x && eqb k y) (sym hg) (sym ht) ∙ h
 
-      pub at-pointer : (g && eqb k top) ≡ true → (q ≡ spot′ π v f n k) × Block l q
+      pub at-pointer : (g && eqb k top) ≡ true → (w .q ≡ spot′ π v f n k) × Block l (w .q)
       at-pointer h = (G .second ∙ sym (stands-at false true (ne-eqb k (292 + n) ne) (new true h)), G .q-in)
 
       pub still-there : (g && eqb k top) ≡ false → present′ π v f n k ≡ true → present π v f k ≡ true
       unfolding present′
       still-there h p = sym (ap (λ (t : Bool). t || present π v f k) (new-is π v f n (G .opened .formed) (G .next) (G .far) k ∙ ap₂ _||_ (ne-eqb k (292 + n) ne) (new false h))) ∙ p
 
-      pub at-old : (b : ℕ) → (g && eqb k top) ≡ false → b ≡ spot π v f k → b ≤ e → (b ≡ spot′ π v f n k) × Block l b
+      pub at-old : (b : ℕ) → (g && eqb k top) ≡ false → b ≡ spot π v f k → b ≤ π .e → (b ≡ spot′ π v f n k) × Block l b
       at-old b h z m = (z ∙ sym (stands-at false false (ne-eqb k (292 + n) ne) (new false h)), block-in (G .opened .lies) b m)
 
     -- ---- links
 
     pub link-none : k < 1 → (0 ≡ link′ π v f n k) × (0 < 4294967296)
     unfolding link′
-    link-none h = (sym (ap (λ (t : Bool). pick t 0 (pda d (spot′ π v f n k))) (eq-eqb k 0 (omega arith))), omega arith)
+    link-none h = (sym (ap (λ (t : Bool). pick t 0 (pda (π .drive) (spot′ π v f n k))) (eq-eqb k 0 (omega arith))), omega arith)
 
-    pub link-some : (b r : ℕ) → 1 ≤ k → b ≡ spot′ π v f n k → r ≡ pda d b → r ≡ link′ π v f n k
+    pub link-some : (b r : ℕ) → 1 ≤ k → b ≡ spot′ π v f n k → r ≡ pda (π .drive) b → r ≡ link′ π v f n k
     unfolding link′
-    link-some b r h p z = z ∙ ap (pda d) p ∙ sym (ap (λ (t : Bool). pick t 0 (pda d (spot′ π v f n k))) (ne-eqb k 0 (λ y. omega arith)))
+    link-some b r h p z = z ∙ ap (pda (π .drive)) p ∙ sym (ap (λ (t : Bool). pick t 0 (pda (π .drive) (spot′ π v f n k))) (ne-eqb k 0 (λ y. omega arith)))
 
     module _ (p : present′ π v f n k ≡ true) where
       pub next-there : (j : ℕ) → j ≡ nextKey (n + 1) k → 0 < j → present′ π v f n j ≡ true

@@ -11,7 +11,7 @@ use Rattle.image.specs.Image.{view}
 use Rattle.image.specs.Saves.{withData}
 use Rattle.volume.specs.Words.{nextAt, previousAt, slotAt}
 use Rattle.volume.specs.Keys.{home, low}
-use Rattle.volume.specs.Files.{partitionOf, len}
+use Rattle.volume.specs.Files.{len}
 use Rattle.volume.specs.declared.Partition.{Partition}
 use Rattle.volume.specs.Plans.{st, freeAt}
 use Rattle.volume.specs.Writes.{spot′, above′, below′, link′}

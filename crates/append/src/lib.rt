@@ -6,7 +6,6 @@ ghost use Prim.Native.Nat.{_≤_, _<_};
 ghost use lib.ListN.{length};
 ghost use Rattle.image.specs.Image.{view, recOf};
 ghost use Rattle.image.specs.Saves.{words, Made};
-ghost use Rattle.volume.specs.Files.{partitionOf};
 ghost use Rattle.volume.specs.Plans.{stores};
 ghost use Rattle.volume.specs.Writes.{put2If, present′, writePlan};
 ghost use Rattle.records.specs.Records.{StandsFor};

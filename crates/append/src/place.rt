@@ -2,10 +2,8 @@
 ghost use mathlib.Core.Path.{_≡_};
 ghost use mathlib.Core.Bool.{true};
 ghost use mathlib.Core.List.{_∷_, []};
-ghost use Prim.Native.Nat.{_<_};
+ghost use Prim.Native.Nat.{_≤_, _<_};
 ghost use Rattle.image.specs.Image.{view, recOf};
-ghost use Rattle.volume.specs.Keys.{number};
-ghost use Rattle.volume.specs.Files.{partitionOf};
 ghost use Rattle.volume.specs.Writes.{present′, spot′, link′};
 ghost use Rattle.records.specs.Records.{Block, StandsFor};
 ghost use Rattle.append.specs.Numbers.{grows};

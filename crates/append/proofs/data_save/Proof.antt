@@ -5,7 +5,7 @@ use Rattle.append.proofs.data_save.Statement.{statement}
 use Rattle.append.proofs.data_save.Tie as tie
 
 key-save-requires : tie.Need-key-save-requires
-key-save-requires c κs = (c .before .before .before .before .pre .0, data-there (c .before .before .before .before .pre .0))
+key-save-requires c κs = (c .before .before .before .before .before .before .pre .0, data-there (c .before .before .before .before .before .before .pre .0))
 
 returns : tie.Need-returns
 unfolding dataStore
@@ -13,5 +13,4 @@ returns c = rw (c .before .with-data .ensures, c .before .before .stamp .ensures
 
 pub data-save-spec : {M : Type 1} → statement M
 data-save-spec =
-    tie.close
-    (tie.spec (λ c. search needs) (λ c κs. search needs) (λ c κs. search needs) (λ c. search needs) key-save-requires returns)
+    tie.close (tie.spec (λ c. search needs) (λ c κs. search needs) (λ c κs. search needs) key-save-requires returns)

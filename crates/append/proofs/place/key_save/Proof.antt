@@ -8,19 +8,19 @@ use Rattle.append.proofs.place.key_save.Statement.{statement}
 use Rattle.append.proofs.place.key_save.Tie as tie
 
 prev-key-requires : tie.Need-prev-key-requires
-prev-key-requires c κs = let r = key-small (c .before .pre .0) _ (c .before .pre .1) in (omega (arith, c .before .pre .0 .far), r .0, r .1)
+prev-key-requires c κs = let r = key-small (c .before .before .pre .0) _ (c .before .before .pre .1) in (omega (arith, c .before .before .pre .0 .far), r .0, r .1)
 
 next-key-requires : tie.Need-next-key-requires
-next-key-requires c κs = let r = key-small (c .before .before .pre .0) _ (c .before .before .pre .1) in (omega (arith, c .before .before .pre .0 .far), r .1)
+next-key-requires c κs = let r = key-small (c .before .before .before .before .pre .0) _ (c .before .before .before .before .pre .1) in (omega (arith, c .before .before .before .before .pre .0 .far), r .1)
 
 link-to-requires : tie.Need-link-to-requires
-link-to-requires c κs = (c .before .before .before .pre .0, prev-there (c .before .before .before .pre .0) _ (c .before .before .before .pre .1) _ (c .before .prev-key .ensures))
+link-to-requires c κs = (c .before .before .before .before .before .pre .0, prev-there (c .before .before .before .before .before .pre .0) _ (c .before .before .before .before .before .pre .1) _ (c .before .before .prev-key .ensures))
 
 link-to-requires-2 : tie.Need-link-to-requires-2
-link-to-requires-2 c κs = (c .before .before .before .before .pre .0, next-there (c .before .before .before .before .pre .0) _ (c .before .before .before .before .pre .1) _ (c .before .next-key .ensures))
+link-to-requires-2 c κs = (c .before .before .before .before .before .before .pre .0, next-there (c .before .before .before .before .before .before .pre .0) _ (c .before .before .before .before .before .before .pre .1) _ (c .before .next-key .ensures))
 
 returns : tie.Need-returns
-returns c = stands (rw (c .saved .ensures .0, c .before .with-pair2 .ensures, c .before .before .with-pair .ensures) (ap (λ x. x ∷ []) (tied-is (c .before .before .before .before .before .before .before .before .before .pre .0) _ (c .before .before .before .before .before .before .before .before .before .pre .1) _ _ _ _ _ _ (c .before .before .before .block-of .ensures .0) (c .before .before .before .before .before .before .before .prev-key .ensures) (c .before .before .before .before .before .before .next-key .ensures) (c .before .before .before .before .before .link-to .ensures .0) (c .before .before .before .before .link-to2 .ensures .0)))) (c .saved .ensures .1) (c .before .before .before .block-of .ensures .1)
+returns c = stands (rw (c .saved .ensures .0, c .before .with-pair2 .ensures, c .before .before .with-pair .ensures) (ap (λ x. x ∷ []) (tied-is (c .before .before .before .before .before .before .before .before .before .before .before .pre .0) _ (c .before .before .before .before .before .before .before .before .before .before .before .pre .1) _ _ _ _ _ _ (c .before .before .before .block-of .ensures .0) (c .before .before .before .before .before .before .before .before .prev-key .ensures) (c .before .before .before .before .before .before .next-key .ensures) (c .before .before .before .before .before .link-to .ensures .0) (c .before .before .before .before .link-to2 .ensures .0)))) (c .saved .ensures .1) (c .before .before .before .block-of .ensures .1)
 
 pub key-save-spec : {M : Type 1} → statement M
 key-save-spec =
