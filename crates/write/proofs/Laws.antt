@@ -86,7 +86,7 @@ module _ {π : Partition} {l : List ℕ} (o : Opens π l) (f n : ℕ) (c : candi
     pub block-after : Block l q
     block-after = block-free-at o 1 q second (omega (arith, one-or-two t m hm))
 
-    pub appends : (z g : ℕ) → z ≡ pdaBlock (π .drive) (pair (view l) q nextAt) → g ≡ pick t z q → Appends π l f n a q g m
+    pub appends : (z g : ℕ) → z ≡ pdaBlock (π .drive) (pair (view l) q nextAt) → g ≡ pick t z q → Appends (record { p = π; f = f; n = n; a = a; q = q; g = g; m = m }) l
     appends z g hz hg =
         record {
           file = record {

@@ -12,25 +12,25 @@ abbrev μ-loop : tie.MeasureT-loop
 μ-loop img₀ p first limit t₀ end b₀ img t b = p .e + 1 - b
 
 add-end : tie.Need-add-end Inv-loop μ-loop
-add-end c = omega (arith, c .before .pre .0 .lies .few)
+add-end c = omega (arith, c .before .before .pre .0 .lies .few)
 
 add-b : tie.Need-add-b Inv-loop μ-loop
-add-b c = omega (arith, c .before .pre .0 .lies .few, c .before .pre .0 .lies .order)
+add-b c = omega (arith, c .before .before .before .pre .0 .lies .few, c .before .before .before .pre .0 .lies .order)
 
 loop-holds : tie.Need-loop-holds Inv-loop μ-loop
-loop-holds c = (omega (arith, c .before .pre .0 .lies .order), mend-starts _ _ _ _ _ (c .before .pre .0) (c .before .pre .1) (omega arith))
+loop-holds c = (omega (arith, c .before .before .before .pre .0 .lies .order), mend-starts _ _ _ _ _ (c .before .before .before .pre .0) (c .before .before .before .pre .1) (omega arith))
 
 turn-requires : tie.Need-turn-requires Inv-loop μ-loop
-turn-requires c κs = mend-turn (c .before .before .loop .inv .1) _ (c .before .before .before .before .pre .1) (omega arith)
+turn-requires c κs = mend-turn (c .before .before .loop .inv .1) _ (c .before .before .before .before .before .before .pre .1) (omega arith)
 
 add-b-2 : tie.Need-add-b-2 Inv-loop μ-loop
-add-b-2 c = omega (arith, c .before .before .before .before .before .before .before .pre .0 .lies .few)
+add-b-2 c = omega (arith, c .before .before .before .before .before .before .before .before .before .pre .0 .lies .few)
 
 loop-less : tie.Need-loop-less Inv-loop μ-loop
 loop-less c = omega arith
 
 loop-again : tie.Need-loop-again Inv-loop μ-loop
-loop-again c = (omega arith, mend-next (c .before .before .before .before .before .loop .inv .1) (λ i. omega (arith, c .before .before .before .before .before .before .slice-known .given i)) (omega arith) (c .before .before .turn .ensures))
+loop-again c = (omega arith, mend-next (c .before .before .before .before .before .loop .inv .1) (λ i. omega (arith, c .before .before .before .before .before .before .before .before .slice-known .given i)) (omega arith) (c .before .before .turn .ensures))
 
 same-length : tie.Need-same-length Inv-loop μ-loop
 same-length c = c .before .loop .inv .1 .same

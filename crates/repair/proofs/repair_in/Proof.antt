@@ -11,13 +11,13 @@ returns : tie.Need-returns
 returns c = answered-not _ (none-free _ _ _ (c .before .before .unowned-from .ensures ∙ from-start _ _) (c .before .if1 .taken)) (c .refused .ensures)
 
 mend-requires : tie.Need-mend-requires
-mend-requires c κs = (c .before .before .before .before .before .pre, c .before .before .unowned-from .ensures ∙ from-start _ _)
+mend-requires c κs = (c .before .before .before .before .before .before .pre, c .before .before .unowned-from .ensures ∙ from-start _ _)
 
 pib-requires : tie.Need-pib-requires
 pib-requires c κs =
     let m = c .before .before .before .mend .ensures in
     let q = c .before .before .before .before .before .before .unowned-from .ensures ∙ from-start _ _ in
-    let g = c .before .before .before .before .before .before .before .before .before .pre .lies in (
+    let g = c .before .before .before .before .before .before .before .before .before .before .pre .lies in (
       omega (arith, g .within, g .order, m .same),
       omega (arith, first-few _ _ _ (g .order) q, g .few),
       omega (arith, last-end (m .stand) (g .order), g .few),

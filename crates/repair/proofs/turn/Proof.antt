@@ -7,8 +7,8 @@ use Rattle.repair.proofs.turn.Tie as tie
 freed-requires : tie.Need-freed-requires
 freed-requires c κs = (turn-in (c .before .before .before .before .before .pre), turn-above (c .before .before .before .before .before .pre) _ (c .before .unowned-from .ensures), turn-below (c .before .before .before .before .before .pre))
 
-add-t24 : tie.Need-add-t24
-add-t24 c = omega (arith, turn-count (c .before .before .before .before .before .before .before .before .before .before .before .pre))
+add-t22 : tie.Need-add-t22
+add-t22 c = omega (arith, turn-count (c .before .before .before .before .before .before .before .before .before .before .before .pre))
 
 returns : tie.Need-returns
 returns c =
@@ -32,7 +32,7 @@ turn-spec =
     freed-requires
     (λ c κs. search needs)
     (λ c κs. search needs)
-    add-t24
+    add-t22
     (λ c. search needs)
     returns
     relinked-requires

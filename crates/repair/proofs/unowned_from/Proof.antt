@@ -12,7 +12,7 @@ use Rattle.repair.proofs.unowned_from.Statement.{statement}
 use Rattle.repair.proofs.unowned_from.Tie as tie
 
 abbrev Inv-loop : tie.InvT-loop
-Inv-loop img p from end b₀ b = Seeking (isFree p (view img)) (suc (p .e)) b (headOf 0 (those from (suc p .e - from) (isFree p (view img))))
+Inv-loop img p from end b₀ b = Seeking (isFree p (view img)) (suc (p .e)) b (headOf 0 (those from (suc (p .e) - from) (isFree p (view img))))
 
 abbrev μ-loop : tie.MeasureT-loop
 μ-loop img p from end b₀ b = p .e + 1 - b
@@ -21,7 +21,7 @@ loop-holds : tie.Need-loop-holds Inv-loop μ-loop
 loop-holds c = seek-starts
 
 owned-requires : tie.Need-owned-requires Inv-loop μ-loop
-owned-requires c κs = (c .before .before .before .pre .lies, omega arith, c .before .before .before .pre .none)
+owned-requires c κs = (c .before .before .before .before .pre .lies, omega arith, c .before .before .before .before .pre .none)
 
 returns : tie.Need-returns Inv-loop μ-loop
 returns c = seek-hit (c .before .before .before .loop .inv) (omega arith) (sym (ap not (c .before .owned .ensures)) ∙ c .if1 .taken)
