@@ -34,7 +34,7 @@ from typing import Any, NamedTuple, Optional, Union
 __all__ = [
     'RECORD', 'DATA', 'DESCRIPTION', 'ROW', 'ALL', 'Writable', 'Readable',
     'Drive', 'Source', 'Summary', 'Shown', 'Target', 'What', 'Row', 'Tree', 'Created', 'Refused', 'Answer',
-    'exports', 'call',
+    'call',
     'lbn_to_pda', 'pda_to_lbn', 'lbn_to_lda', 'lda_to_lbn', 'lbn_to_fileid', 'fileid_to_lbn',
     'check', 'next_file', 'files', 'read', 'show', 'show_pair', 'description', 'extract', 'whole_file',
     'look_up', 'tree',
@@ -243,11 +243,6 @@ def _function(name: str) -> Any:
         raise NotImplementedError(f'the library does not export perq_{name}') from None
     function.argtypes, function.restype = _SIGNATURES[name], Answer
     return function
-
-
-def exports(name: str) -> bool:
-    """Whether the library has a call, by its name without the perq_."""
-    return hasattr(_library(), 'perq_' + name)
 
 
 class _Buffer(ctypes.Structure):

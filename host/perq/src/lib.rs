@@ -21,30 +21,23 @@
 #![warn(missing_docs)]
 
 mod address;
-#[cfg(feature = "changing")]
 mod changing;
-#[cfg(feature = "reading")]
 mod directory;
 mod drive;
 #[allow(unsafe_code)]
 pub mod raw;
-#[cfg(feature = "reading")]
 mod reading;
 mod refusal;
 
 pub use address::{
     fileid_to_lbn, lbn_to_fileid, lbn_to_lda, lbn_to_pda, lda_to_lbn, pda_to_lbn, Words,
 };
-#[cfg(feature = "changing")]
 pub use changing::{blank, create, describe, destroy, repair, write, Created, ALL};
-#[cfg(feature = "reading")]
 pub use directory::{look_up, tree, Row, Rule, Target, Tree, What, JOINT, ROW};
 pub use drive::Drive;
-#[cfg(feature = "reading")]
 pub use reading::{
     check, description, extract, files, next_file, read, show, show_pair, whole_file,
 };
-#[cfg(feature = "reading")]
 pub use reading::{Files, Presence, Shown, Source, Summary};
 pub use refusal::Refusal;
 

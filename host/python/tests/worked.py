@@ -51,6 +51,8 @@ def cases(path):
             elif words[0] == 'row':
                 steps[-1].rows.append((*map(int, words[1:4]), bytes.fromhex(words[4])))
             elif words[0] == 'end':
+                if not any(isinstance(step, Call) for step in steps):
+                    raise ValueError(f'{path} has a case without a call: {number}')
                 yield number, image, steps
                 steps = None
             else:
