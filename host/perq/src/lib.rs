@@ -8,6 +8,25 @@
 //! Every call takes any image at all: one that it cannot accept is refused with a [`Refusal`], and then nothing was stored
 //! and no buffer was touched.
 //!
+//! What a call changes must not overlap with anything else that it is lent. Here it cannot: it is lent as `&mut`, so to nobody
+//! else, and no function takes a pointer. This one is refused, for there is no partition:
+//!
+//! ```
+//! # use perq::{extract, Drive, Refusal};
+//! # let mut image = vec![0; 528 * 40];
+//! # let mut buffer = vec![0; 512];
+//! assert_eq!(extract(&image, Drive::Floppy, 1, 2, &mut buffer[..512]), Err(Refusal::Partition));
+//! ```
+//!
+//! and this one does not compile:
+//!
+//! ```compile_fail,E0502
+//! # use perq::{extract, Drive, Refusal};
+//! # let mut image = vec![0; 528 * 40];
+//! # let mut buffer = vec![0; 512];
+//! assert_eq!(extract(&image, Drive::Floppy, 1, 2, &mut image[..512]), Err(Refusal::Partition));
+//! ```
+//!
 //! ```
 //! use perq::{lbn_to_lda, lbn_to_pda, Drive, Words};
 //!

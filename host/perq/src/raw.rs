@@ -1,6 +1,7 @@
 //! The calls of `include/perq.h`, one for one: numbers in, the seven fields of the answer out. This is the only
 //! module with `unsafe`. It adds nothing but the step from a slice to a pointer and a length; the rest of the crate
-//! gives the answers types.
+//! gives the answers types. No function takes a pointer: what a call changes is a `&mut` slice, so it overlaps with nothing
+//! else that the call is lent.
 
 /// What a call answers, field by field; a field that a call does not speak of is 0.
 #[repr(C)]
@@ -138,7 +139,8 @@ extern "C" {
 }
 
 // SAFETY, for every `unsafe` below: the library keeps no pointer, and reads and writes only the bytes that it is lent.
-// A slice lends just these bytes for the time of the call, and a `&mut` one lends them to nobody else.
+// A slice lends just these bytes for the time of the call, and a `&mut` one lends them to nobody else, so nothing that is
+// written to overlaps with anything else. The address of a slice without bytes is one that the library takes but never reads.
 
 /// The PDA of a block: `a`.
 pub fn lbn_to_pda(drive: u32, lbn: u32) -> Answer {

@@ -7,8 +7,7 @@ import tapermoss
 
 FOLDER = os.path.join(os.path.dirname(__file__), '..', '..', '..', 'tests', 'worked')
 BASE, REQUEST_1 = (os.path.join(FOLDER, name) for name in ('base.txt', 'request-1.txt'))
-#: The calls whose buffer is filled, those of them whose buffer's sum stands in a case, and those that change the image.
-FILLS = {'read', 'description', 'extract', 'tree'}
+#: The calls whose buffer's sum stands in a case, and those that change the image.
 SUMMED = {'read', 'description', 'tree'}
 CHANGES = {'create', 'write', 'describe', 'destroy', 'repair'}
 
