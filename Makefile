@@ -2,12 +2,9 @@
 # packages the rest needs, `make setup` installs, and every other target asks for it first. All that is built goes
 # under build/ (and target/, which is rt's own).
 
-# The groups of calls that the library exports besides the conversions: reading, then changing.
-FEATURES ?= reading changing
 # How long `make fuzz` runs.
 SECONDS ?= 60
 
-export FEATURES
 export CARGO_TARGET_DIR := $(CURDIR)/build/host
 export PERQ_LIB_DIR := $(CURDIR)/build
 
@@ -32,17 +29,15 @@ build/libperq.a: crates.txt $(shell find crates 2>/dev/null)
 	@tools/library $@
 
 tool: library
-	@cd host && cargo build --offline --quiet --release -p tapermoss --no-default-features --features "$(FEATURES)"
+	@cd host && cargo build --offline --quiet --release -p tapermoss
 
-# The worked examples as a table, the walk-through, which needs all calls, and the same jobs on images that the reference made.
+# The worked examples as a table, the walk-through, and the same jobs on images that the reference made.
 run: tool
 	@build/host/release/tapermoss tour
-ifneq ($(findstring changing,$(FEATURES)),)
 	@echo
 	@tools/walk build/host/release/tapermoss build/walk
-	@cd host && cargo build --offline --quiet --release -p trials --bin batch_data --no-default-features --features "$(FEATURES)"
+	@cd host && cargo build --offline --quiet --release -p trials --bin batch_data
 	@tools/reference build/host/release/tapermoss build/host/release/batch_data build/reference
-endif
 	@printf '\nThe tool is build/host/release/tapermoss.\n'
 
 # The shared object that host/python/tapermoss.py loads.

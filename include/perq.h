@@ -5,11 +5,27 @@
  * partition by its first block, `f` a file by the LBN of its FIB, `r` a relative block number.
  * An address of two words is one number: low word + 65536 * high word.
  * Nothing is stored and no buffer is touched under any refusal.
+ *
+ * An address with a length above 0 must be that of so many bytes. With length 0 it may be NULL, or any other:
+ *   an image         refused by 1; perq_show_pair is answered by the other image, if that one is not refused
+ *   a buffer         in its turn refused by 3; perq_extract of a file without blocks is PERQ_DONE, a = 0
+ *   a rule, a path   the rule is not known; the root
+ *   rows             PERQ_DONE, a = 0, b = 1 if there is an entry
+ *
+ * What a call writes to must not overlap with anything else that it is lent: in perq_read, perq_description, perq_extract,
+ * perq_write and perq_describe the buffer with the image, in perq_tree the rows with the image or the rule. The library
+ * cannot see that it does; nothing is promised of such a call, and one that is answered PERQ_DONE may have left the image
+ * malformed. What is only read may be the same memory: both images of perq_show_pair, the image, the rule and the path of
+ * perq_look_up, the image and the rule of perq_tree.
  */
 #ifndef PERQ_H
 #define PERQ_H
 #include <stddef.h>
 #include <stdint.h>
+
+#ifdef __cplusplus
+extern "C" {
+#endif
 
 enum { PERQ_DONE = 0, PERQ_ABSENT = 1, PERQ_REFUSED = 2 };
 
@@ -86,5 +102,9 @@ perq_answer perq_look_up(const uint8_t *image, size_t length, uint32_t drive, ui
  * level; block = its LBN. */
 perq_answer perq_tree(const uint8_t *image, size_t length, uint32_t drive, uint32_t s,
                       const uint8_t *rule, size_t rule_length, uint8_t *rows, size_t rows_length);
+
+#ifdef __cplusplus
+}
+#endif
 
 #endif

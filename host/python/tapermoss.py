@@ -7,6 +7,13 @@ and has then changed nothing. A block that a file does not have is None; an empt
 directories `rule` is the hash rule, which says in what blocks of a directory a name's entry is looked for: 26 bytes, or
 none where it is not known, and then all blocks are. A name is bytes, for a disk does not say what letters they stand for.
 
+What a call changes, an image or a buffer, must not overlap with anything else that it is lent. A call that is given one
+bytearray for both, or views of one that share a byte, raises ValueError and has changed nothing; views that lie apart are
+taken. So a block that was shown is copied before it is written to the same image: bytes(block). What is only read may be
+the same object, as both images of show_pair. Addresses are compared: of two maps of one file it cannot be seen that they
+are the same bytes. Bytes of length 0 overlap with nothing: as an image they are refused by 1, as a buffer by 3 unless a file
+without blocks is extracted; as a rule they are none, as a path the root.
+
     from tapermoss import Drive, check, files, show
 
     with open('disk.img', 'rb') as file:
@@ -24,17 +31,18 @@ import contextlib
 import ctypes
 import enum
 import functools
+import itertools
 import mmap
 import operator
 import os
 import pickle
-from collections.abc import Container, Iterator
+from collections.abc import Iterator
 from typing import Any, NamedTuple, Optional, Union
 
 __all__ = [
     'RECORD', 'DATA', 'DESCRIPTION', 'ROW', 'ALL', 'Writable', 'Readable',
     'Drive', 'Source', 'Summary', 'Shown', 'Target', 'What', 'Row', 'Tree', 'Created', 'Refused', 'Answer',
-    'exports', 'call',
+    'call',
     'lbn_to_pda', 'pda_to_lbn', 'lbn_to_lda', 'lda_to_lbn', 'lbn_to_fileid', 'fileid_to_lbn',
     'check', 'next_file', 'files', 'read', 'show', 'show_pair', 'description', 'extract', 'whole_file',
     'look_up', 'tree',
@@ -190,7 +198,11 @@ class Answer(ctypes.Structure):
 
 # --- The library and the bytes that it is lent ---
 
-_BYTES = [ctypes.c_void_p, ctypes.c_size_t]
+class _Changed(ctypes.c_void_p):
+    """The address of bytes that the call changes."""
+
+
+_BYTES, _CHANGED = [ctypes.c_void_p, ctypes.c_size_t], [_Changed, ctypes.c_size_t]
 _U32, _U16 = ctypes.c_uint32, ctypes.c_uint16
 _SIGNATURES = {
     'lbn_to_pda': [_U32] * 2,
@@ -201,18 +213,18 @@ _SIGNATURES = {
     'fileid_to_lbn': [_U32] * 2,
     'check': _BYTES + [_U32] * 2,
     'next_file': _BYTES + [_U32] * 3,
-    'read': _BYTES + [_U32] * 4 + _BYTES,
+    'read': _BYTES + [_U32] * 4 + _CHANGED,
     'show': _BYTES + [_U32] * 4,
     'show_pair': _BYTES + _BYTES + [_U32] * 4,
-    'description': _BYTES + [_U32] * 3 + _BYTES,
-    'extract': _BYTES + [_U32] * 3 + _BYTES,
+    'description': _BYTES + [_U32] * 3 + _CHANGED,
+    'extract': _BYTES + [_U32] * 3 + _CHANGED,
     'look_up': _BYTES + [_U32] * 2 + _BYTES + _BYTES,
-    'tree': _BYTES + [_U32] * 2 + _BYTES + _BYTES,
-    'create': _BYTES + [_U32] * 2 + [_U16, _U32],
-    'write': _BYTES + [_U32] * 4 + _BYTES + [_U32],
-    'describe': _BYTES + [_U32] * 3 + _BYTES + [_U32],
-    'destroy': _BYTES + [_U32] * 4,
-    'repair': _BYTES + [_U32] * 3,
+    'tree': _BYTES + [_U32] * 2 + _BYTES + _CHANGED,
+    'create': _CHANGED + [_U32] * 2 + [_U16, _U32],
+    'write': _CHANGED + [_U32] * 4 + _BYTES + [_U32],
+    'describe': _CHANGED + [_U32] * 3 + _BYTES + [_U32],
+    'destroy': _CHANGED + [_U32] * 4,
+    'repair': _CHANGED + [_U32] * 3,
 }
 _MOST = {_U32: 2 ** 32 - 1, _U16: 2 ** 16 - 1}
 
@@ -245,11 +257,6 @@ def _function(name: str) -> Any:
     return function
 
 
-def exports(name: str) -> bool:
-    """Whether the library has a call, by its name without the perq_."""
-    return hasattr(_library(), 'perq_' + name)
-
-
 class _Buffer(ctypes.Structure):
     """CPython's Py_buffer."""
     _fields_ = [
@@ -267,27 +274,36 @@ _release_buffer.argtypes, _release_buffer.restype = [ctypes.POINTER(_Buffer)], N
 
 
 @contextlib.contextmanager
-def _lent(thing: Readable, writable: bool = False) -> Iterator[tuple[Optional[int], int]]:
-    """The address and the length of an object's own bytes, which stay in their place meanwhile."""
+def _lent(thing: Readable, writable: bool = False) -> Iterator[tuple[int, int]]:
+    """The address, 0 for NULL, and the length of an object's own bytes, which stay in their place meanwhile."""
     buffer = _Buffer()
     _get_buffer(thing, ctypes.byref(buffer), 1 if writable else 0)
     try:
-        yield buffer.address, buffer.length
+        yield buffer.address or 0, buffer.length
     finally:
         _release_buffer(ctypes.byref(buffer))
 
 
-def call(name: str, *arguments: Union[int, Readable], writable: Container[int] = ()) -> Answer:
+class _Piece(NamedTuple):
+    """The bytes that a call is lent at one place of its arguments, counted from 1."""
+    place: int
+    address: int
+    length: int
+    changed: bool
+
+
+def call(name: str, *arguments: Union[int, Readable]) -> Answer:
     """Makes a call of include/perq.h as it is; answers its Answer. An object with bytes stands for an address and a
-    length; those at the places in `writable` are lent to be changed."""
+    length. One whose bytes the call changes must be writable, and must not overlap with any other."""
     function = _function(name)
     # Each address has its length behind it, and the two are one argument.
-    wanted = len(function.argtypes) - function.argtypes.count(ctypes.c_void_p)
+    wanted = len(function.argtypes) - sum(issubclass(kind, ctypes.c_void_p) for kind in function.argtypes)
     if len(arguments) != wanted:
         raise TypeError(f'{name} takes {wanted} arguments, an object with bytes counting as one, not {len(arguments)}')
     with contextlib.ExitStack() as stack:
-        passed: list[Optional[int]] = []
-        for place, argument in enumerate(arguments):
+        passed: list[int] = []
+        pieces: list[_Piece] = []
+        for place, argument in enumerate(arguments, 1):
             kind = function.argtypes[len(passed)]
             if isinstance(argument, int):
                 _must_fit(argument, kind)
@@ -296,8 +312,21 @@ def call(name: str, *arguments: Union[int, Readable], writable: Container[int] =
                 # Its address would be taken for the number, and all that follows for something else.
                 raise TypeError(f'a number is wanted, not {type(argument).__name__}')
             else:
-                passed += stack.enter_context(_lent(argument, place in writable))
+                changed = kind is _Changed
+                address, length = stack.enter_context(_lent(argument, changed))
+                passed += address, length
+                pieces.append(_Piece(place, address, length, changed))
+        _must_lie_apart(name, pieces)
         return function(*passed)
+
+
+def _must_lie_apart(name: str, pieces: list[_Piece]) -> None:
+    """What a call changes and what else it is lent may have no byte in common; no bytes have none."""
+    for changed, other in itertools.permutations(pieces, 2):
+        first, end = max(changed.address, other.address), min(changed.address + changed.length, other.address + other.length)
+        if changed.changed and first < end:
+            raise ValueError(f'{name} changes the bytes of argument {changed.place}, and those of argument {other.place} '
+                             'overlap with them')
 
 
 def _must_fit(number: int, kind: Any) -> None:
@@ -383,7 +412,7 @@ def files(image: Readable, drive: int, s: int) -> Iterator[int]:
 def read(image: Readable, drive: int, s: int, f: int, r: int, buffer: Writable) -> bool:
     """Copies a block of a file to the buffer of 512 bytes, or zeros if the file ends before it; answers whether it has
     the block."""
-    return _given(call('read', image, drive, s, f, r, buffer, writable={5})).outcome == _DONE
+    return _given(call('read', image, drive, s, f, r, buffer)).outcome == _DONE
 
 
 def show(image: Readable, drive: int, s: int, f: int, r: int) -> Optional[memoryview]:
@@ -401,13 +430,13 @@ def show_pair(original: Readable, repaired: Readable, drive: int, s: int, f: int
 def description(image: Readable, drive: int, s: int, f: int) -> bytes:
     """The 104 bytes of a file's description."""
     buffer = bytearray(DESCRIPTION)
-    _given(call('description', image, drive, s, f, buffer, writable={4}))
+    _given(call('description', image, drive, s, f, buffer))
     return bytes(buffer)
 
 
 def extract(image: Readable, drive: int, s: int, f: int, buffer: Writable) -> int:
     """Copies a whole file to the buffer, which has 512 bytes for each block; answers how many blocks these are."""
-    return _given(call('extract', image, drive, s, f, buffer, writable={4})).a
+    return _given(call('extract', image, drive, s, f, buffer)).a
 
 
 def whole_file(image: Readable, drive: int, s: int, f: int) -> bytearray:
@@ -459,7 +488,7 @@ def tree(image: Readable, drive: int, s: int, rule: Readable = b'', most: int = 
     room = min(most, _FIRST_ROWS)
     while True:
         rows = bytearray(ROW * room)
-        answer = _given(call('tree', image, drive, s, rule, rows, writable={4}))
+        answer = _given(call('tree', image, drive, s, rule, rows))
         if not answer.b or room == most:
             del rows[ROW * answer.a:]
             return Tree(rows, not answer.b)
@@ -481,25 +510,25 @@ def blank(drive: int, n: int, s: int, e: int) -> bytearray:
 
 def create(image: Writable, drive: int, s: int, kind: int = 0, limit: int = ALL) -> Created:
     """Makes an empty file."""
-    answer = _given(call('create', image, drive, s, kind, limit, writable={0}))
+    answer = _given(call('create', image, drive, s, kind, limit))
     return Created(answer.a, answer.made)
 
 
 def write(image: Writable, drive: int, s: int, f: int, r: int, data: Readable, limit: int = ALL) -> int:
     """Replaces a block of a file by 512 bytes, or appends it; answers how many stores were made."""
-    return _given(call('write', image, drive, s, f, r, data, limit, writable={0})).made
+    return _given(call('write', image, drive, s, f, r, data, limit)).made
 
 
 def describe(image: Writable, drive: int, s: int, f: int, description: Readable, limit: int = ALL) -> int:
     """Sets the 104 bytes of a file's description; answers how many stores were made."""
-    return _given(call('describe', image, drive, s, f, description, limit, writable={0})).made
+    return _given(call('describe', image, drive, s, f, description, limit)).made
 
 
 def destroy(image: Writable, drive: int, s: int, f: int, limit: int = ALL) -> int:
     """Gives the blocks of a file to the free chain; answers how many stores were made."""
-    return _given(call('destroy', image, drive, s, f, limit, writable={0})).made
+    return _given(call('destroy', image, drive, s, f, limit)).made
 
 
 def repair(image: Writable, drive: int, s: int, limit: int = ALL) -> int:
     """Links every file and chains every free block anew; answers how many stores were made."""
-    return _given(call('repair', image, drive, s, limit, writable={0})).made
+    return _given(call('repair', image, drive, s, limit)).made

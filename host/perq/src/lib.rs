@@ -8,6 +8,25 @@
 //! Every call takes any image at all: one that it cannot accept is refused with a [`Refusal`], and then nothing was stored
 //! and no buffer was touched.
 //!
+//! What a call changes must not overlap with anything else that it is lent. Here it cannot: it is lent as `&mut`, so to nobody
+//! else, and no function takes a pointer. This one is refused, for there is no partition:
+//!
+//! ```
+//! # use perq::{extract, Drive, Refusal};
+//! # let mut image = vec![0; 528 * 40];
+//! # let mut buffer = vec![0; 512];
+//! assert_eq!(extract(&image, Drive::Floppy, 1, 2, &mut buffer[..512]), Err(Refusal::Partition));
+//! ```
+//!
+//! and this one does not compile:
+//!
+//! ```compile_fail,E0502
+//! # use perq::{extract, Drive, Refusal};
+//! # let mut image = vec![0; 528 * 40];
+//! # let mut buffer = vec![0; 512];
+//! assert_eq!(extract(&image, Drive::Floppy, 1, 2, &mut image[..512]), Err(Refusal::Partition));
+//! ```
+//!
 //! ```
 //! use perq::{lbn_to_lda, lbn_to_pda, Drive, Words};
 //!
@@ -21,30 +40,23 @@
 #![warn(missing_docs)]
 
 mod address;
-#[cfg(feature = "changing")]
 mod changing;
-#[cfg(feature = "reading")]
 mod directory;
 mod drive;
 #[allow(unsafe_code)]
 pub mod raw;
-#[cfg(feature = "reading")]
 mod reading;
 mod refusal;
 
 pub use address::{
     fileid_to_lbn, lbn_to_fileid, lbn_to_lda, lbn_to_pda, lda_to_lbn, pda_to_lbn, Words,
 };
-#[cfg(feature = "changing")]
 pub use changing::{blank, create, describe, destroy, repair, write, Created, ALL};
-#[cfg(feature = "reading")]
 pub use directory::{look_up, tree, Row, Rule, Target, Tree, What, JOINT, ROW};
 pub use drive::Drive;
-#[cfg(feature = "reading")]
 pub use reading::{
     check, description, extract, files, next_file, read, show, show_pair, whole_file,
 };
-#[cfg(feature = "reading")]
 pub use reading::{Files, Presence, Shown, Source, Summary};
 pub use refusal::Refusal;
 

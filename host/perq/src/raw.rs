@@ -1,6 +1,7 @@
 //! The calls of `include/perq.h`, one for one: numbers in, the seven fields of the answer out. This is the only
 //! module with `unsafe`. It adds nothing but the step from a slice to a pointer and a length; the rest of the crate
-//! gives the answers types.
+//! gives the answers types. No function takes a pointer: what a call changes is a `&mut` slice, so it overlaps with nothing
+//! else that the call is lent.
 
 /// What a call answers, field by field; a field that a call does not speak of is 0.
 #[repr(C)]
@@ -36,10 +37,6 @@ extern "C" {
     fn perq_lda_to_lbn(drive: u32, lda: u32) -> Answer;
     fn perq_lbn_to_fileid(drive: u32, lbn: u32) -> Answer;
     fn perq_fileid_to_lbn(drive: u32, fileid: u32) -> Answer;
-}
-
-#[cfg(feature = "reading")]
-extern "C" {
     fn perq_check(image: *const u8, length: usize, drive: u32, s: u32) -> Answer;
     fn perq_next_file(image: *const u8, length: usize, drive: u32, s: u32, after: u32) -> Answer;
     fn perq_read(
@@ -101,10 +98,6 @@ extern "C" {
         rows: *mut u8,
         rows_length: usize,
     ) -> Answer;
-}
-
-#[cfg(feature = "changing")]
-extern "C" {
     fn perq_create(
         image: *mut u8,
         length: usize,
@@ -146,7 +139,8 @@ extern "C" {
 }
 
 // SAFETY, for every `unsafe` below: the library keeps no pointer, and reads and writes only the bytes that it is lent.
-// A slice lends just these bytes for the time of the call, and a `&mut` one lends them to nobody else.
+// A slice lends just these bytes for the time of the call, and a `&mut` one lends them to nobody else, so nothing that is
+// written to overlaps with anything else. The address of a slice without bytes is one that the library takes but never reads.
 
 /// The PDA of a block: `a`.
 pub fn lbn_to_pda(drive: u32, lbn: u32) -> Answer {
@@ -179,19 +173,16 @@ pub fn fileid_to_lbn(drive: u32, fileid: u32) -> Answer {
 }
 
 /// Whether the partition is sound: `a` files, `b` owned blocks, `c` free ones.
-#[cfg(feature = "reading")]
 pub fn check(image: &[u8], drive: u32, s: u32) -> Answer {
     unsafe { perq_check(image.as_ptr(), image.len(), drive, s) }
 }
 
 /// The lowest file above `after`: `a`.
-#[cfg(feature = "reading")]
 pub fn next_file(image: &[u8], drive: u32, s: u32, after: u32) -> Answer {
     unsafe { perq_next_file(image.as_ptr(), image.len(), drive, s, after) }
 }
 
 /// Copies block r of a file to the buffer of 512 bytes; zeros when absent.
-#[cfg(feature = "reading")]
 pub fn read(image: &[u8], drive: u32, s: u32, f: u32, r: u32, buffer: &mut [u8]) -> Answer {
     unsafe {
         perq_read(image.as_ptr(), image.len(), drive, s, f, r, buffer.as_mut_ptr(), buffer.len())
@@ -199,13 +190,11 @@ pub fn read(image: &[u8], drive: u32, s: u32, f: u32, r: u32, buffer: &mut [u8])
 }
 
 /// Where block r of a file lies in the image: `b` bytes from `a` on.
-#[cfg(feature = "reading")]
 pub fn show(image: &[u8], drive: u32, s: u32, f: u32, r: u32) -> Answer {
     unsafe { perq_show(image.as_ptr(), image.len(), drive, s, f, r) }
 }
 
 /// As [`show`] on the repaired image (`c` = 1) or, where that is refused, on the original (`c` = 2).
-#[cfg(feature = "reading")]
 pub fn show_pair(original: &[u8], repaired: &[u8], drive: u32, s: u32, f: u32, r: u32) -> Answer {
     unsafe {
         perq_show_pair(
@@ -222,7 +211,6 @@ pub fn show_pair(original: &[u8], repaired: &[u8], drive: u32, s: u32, f: u32, r
 }
 
 /// Copies the description of a file to the buffer of 104 bytes.
-#[cfg(feature = "reading")]
 pub fn description(image: &[u8], drive: u32, s: u32, f: u32, buffer: &mut [u8]) -> Answer {
     unsafe {
         perq_description(
@@ -238,7 +226,6 @@ pub fn description(image: &[u8], drive: u32, s: u32, f: u32, buffer: &mut [u8]) 
 }
 
 /// Copies all `a` blocks of a file to the buffer of 512 bytes for each.
-#[cfg(feature = "reading")]
 pub fn extract(image: &[u8], drive: u32, s: u32, f: u32, buffer: &mut [u8]) -> Answer {
     unsafe {
         perq_extract(image.as_ptr(), image.len(), drive, s, f, buffer.as_mut_ptr(), buffer.len())
@@ -246,7 +233,6 @@ pub fn extract(image: &[u8], drive: u32, s: u32, f: u32, buffer: &mut [u8]) -> A
 }
 
 /// What a path leads to: the file `a`, or, where `b` is 1, an entry that names no file. The rule has 26 bytes or none.
-#[cfg(feature = "reading")]
 pub fn look_up(image: &[u8], drive: u32, s: u32, rule: &[u8], path: &[u8]) -> Answer {
     unsafe {
         perq_look_up(
@@ -264,7 +250,6 @@ pub fn look_up(image: &[u8], drive: u32, s: u32, rule: &[u8], path: &[u8]) -> An
 
 /// Fills a row of 32 bytes for each entry of the tree, `a` of them; `b` is 1 where no row was left for the next entry.
 /// The rule has 26 bytes or none.
-#[cfg(feature = "reading")]
 pub fn tree(image: &[u8], drive: u32, s: u32, rule: &[u8], rows: &mut [u8]) -> Answer {
     unsafe {
         perq_tree(
@@ -281,13 +266,11 @@ pub fn tree(image: &[u8], drive: u32, s: u32, rule: &[u8], rows: &mut [u8]) -> A
 }
 
 /// Makes an empty file: `a`.
-#[cfg(feature = "changing")]
 pub fn create(image: &mut [u8], drive: u32, s: u32, kind: u16, limit: u32) -> Answer {
     unsafe { perq_create(image.as_mut_ptr(), image.len(), drive, s, kind, limit) }
 }
 
 /// Replaces block r of a file, or appends it, by the 512 bytes.
-#[cfg(feature = "changing")]
 pub fn write(
     image: &mut [u8],
     drive: u32,
@@ -313,7 +296,6 @@ pub fn write(
 }
 
 /// Sets the description of a file to the 104 bytes.
-#[cfg(feature = "changing")]
 pub fn describe(image: &mut [u8], drive: u32, s: u32, f: u32, buffer: &[u8], limit: u32) -> Answer {
     unsafe {
         perq_describe(
@@ -330,13 +312,11 @@ pub fn describe(image: &mut [u8], drive: u32, s: u32, f: u32, buffer: &[u8], lim
 }
 
 /// Gives the blocks of a file back to the free chain.
-#[cfg(feature = "changing")]
 pub fn destroy(image: &mut [u8], drive: u32, s: u32, f: u32, limit: u32) -> Answer {
     unsafe { perq_destroy(image.as_mut_ptr(), image.len(), drive, s, f, limit) }
 }
 
 /// Links the files and chains the free blocks anew.
-#[cfg(feature = "changing")]
 pub fn repair(image: &mut [u8], drive: u32, s: u32, limit: u32) -> Answer {
     unsafe { perq_repair(image.as_mut_ptr(), image.len(), drive, s, limit) }
 }

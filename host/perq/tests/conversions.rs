@@ -11,7 +11,7 @@ const DRIVES: [u32; 7] = [0, 1, 2, 3, 4, 5, u32::MAX];
 /// Both sides' answer to a conversion, which must be one and the same.
 fn convert(name: Name, drive: u32, number: u32) -> Answer {
     let call = Call::conversion(name, drive, number);
-    let ours = on_library(&call, &mut [], &[], &mut []).expect("conversions are always exported");
+    let ours = on_library(&call, &mut [], &[], &mut []);
     let theirs = on_reference(&call, &mut [], &[], &mut []);
     assert_eq!(ours, theirs, "{name:?} of {number} on drive {drive}");
     ours

@@ -1,7 +1,6 @@
 //! Nothing is lost: on partitions of eight records every call is cut after every store, the repair that follows is cut
 //! after every store too, and then finished. Every file is as before the call or, the one that was named and only once
 //! the deciding store was made, as after it.
-#![cfg(feature = "changing")]
 
 use perq::{Drive, ALL};
 use reference::sample::{fresh, Rng};

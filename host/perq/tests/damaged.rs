@@ -1,5 +1,4 @@
 //! Reading from damaged images: every field that a rule reads, records out of place, and bytes of no meaning at all.
-#![cfg(feature = "reading")]
 
 use reference::image::{RECORD, RELATIVE};
 use reference::sample::{blank, Rng};

@@ -1,6 +1,5 @@
 //! Directories: look_up and tree on random trees, sound and damaged, as the reference has them. Broken paths, and what tree
 //! lists looked up again, are in directory_paths.rs.
-#![cfg(feature = "reading")]
 
 use perq::Rule;
 use reference::directory::{DIRECTORY, HASHES};

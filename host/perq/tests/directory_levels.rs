@@ -1,5 +1,4 @@
 //! The rows of a tree through the typed calls: their paths, how many there are, and the nine levels that are looked into.
-#![cfg(feature = "reading")]
 
 mod common;
 use common::{block, directory, image, ladder, led, listed, small};

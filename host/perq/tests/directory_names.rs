@@ -1,5 +1,4 @@
 //! Names, paths and hash rules through the typed calls, with trees small enough to work every answer out by hand.
-#![cfg(feature = "reading")]
 
 mod common;
 use common::{block, directory, image, ladder, led, listed, small, DRIVE, S};

@@ -1,5 +1,4 @@
 //! Paths in random trees: broken and long ones as the reference answers them, and those of a tree's own rows.
-#![cfg(feature = "reading")]
 
 use perq::{Drive, Row, Rule, Target};
 use reference::directory::JOINT;

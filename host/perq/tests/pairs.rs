@@ -1,5 +1,4 @@
 //! Showing a block from a pair, and the typed answers: parts of the caller's own images.
-#![cfg(feature = "reading")]
 
 use perq::{Drive, Presence, Refusal, Source, Summary};
 use reference::image::RECORD;

@@ -1,12 +1,11 @@
 //! Every refusal: seen by itself, seen before all that come after it in the call's order, and nothing touched.
-#![cfg(feature = "reading")]
 
 use perq::{raw, Drive};
 use reference::image::RECORD;
 use reference::sample::scattered;
 use reference::tree_sample::set_root;
 use trials::both::Both;
-use trials::call::{Call, Group, Name};
+use trials::call::{Call, Name};
 use trials::images::{pair, set_pair, set_word, word, Place, DATA_WORD};
 use trials::tally::{is_refusal, refusals};
 
@@ -150,14 +149,15 @@ fn must_refuse(name: Name, causes: &[Cause]) {
     );
 }
 
-fn exported() -> impl Iterator<Item = Name> {
+/// The calls on one image.
+fn on_an_image() -> impl Iterator<Item = Name> {
     let all = Name::READING.into_iter().chain(Name::CHANGING);
-    all.filter(|name| name.group().exported() && *name != Name::ShowPair)
+    all.filter(|name| *name != Name::ShowPair)
 }
 
 #[test]
 fn nothing_is_refused_when_all_is_well() {
-    for name in exported() {
+    for name in on_an_image() {
         let (mut both, call) = answer_under(name, &[]);
         assert_ne!(both.call(&call).outcome, raw::REFUSED, "{name:?}");
     }
@@ -165,7 +165,7 @@ fn nothing_is_refused_when_all_is_well() {
 
 #[test]
 fn each_refusal_by_itself() {
-    for name in exported() {
+    for name in on_an_image() {
         for cause in causes(name) {
             must_refuse(name, &[cause]);
         }
@@ -174,7 +174,7 @@ fn each_refusal_by_itself() {
 
 #[test]
 fn each_refusal_before_every_later_one() {
-    for name in exported() {
+    for name in on_an_image() {
         let order = causes(name);
         for (i, &first) in order.iter().enumerate() {
             must_refuse(name, &order[i..]);
@@ -202,7 +202,7 @@ fn only_the_file_that_is_named_is_asked_about_when_reading_it() {
 
 #[test]
 fn images_of_a_wrong_length() {
-    for name in exported() {
+    for name in on_an_image() {
         let image = roomy_image();
         let call = fine(name, &image);
         for length in [0, 1, 527, 529, image.len() - 1, image.len() + 1, RECORD * 433] {
@@ -227,7 +227,7 @@ fn images_of_one_record_too_many_for_each_drive() {
 #[test]
 fn buffers_of_a_wrong_length() {
     let by_length = |name: &Name| refusals(*name).contains(&3) && !Name::DIRECTORIES.contains(name);
-    for name in exported().filter(by_length) {
+    for name in on_an_image().filter(by_length) {
         for length in [0, 1, 103, 105, 511, 513, 1_024, 512 * 59, 512 * 61] {
             let (mut both, call) = answer_under(name, &[]);
             let answer = both.call(&call.with_buffer(&vec![1; length]));
@@ -254,13 +254,13 @@ fn partitions_that_are_not_good() {
     for (what, at, value) in cases {
         let mut both = Both::new(image.clone());
         both.edit(|image| set_pair(image, PLACE.s, DATA_WORD + at, value));
-        for name in exported() {
+        for name in on_an_image() {
             let answer = both.call(&fine(name, &image));
             assert!(is_refusal(answer, 2), "{name:?} where {what}: {answer:?}");
         }
     }
     for s in [0, 2, 69, 70, 71, u32::MAX] {
-        for name in exported() {
+        for name in on_an_image() {
             let answer = Both::new(image.clone()).call(&Call { s, ..fine(name, &image) });
             assert!(is_refusal(answer, 2), "{name:?} at {s}: {answer:?}");
         }
@@ -277,9 +277,6 @@ fn a_partition_that_starts_at_block_0_is_not_good() {
 
 #[test]
 fn repair_without_an_unowned_block() {
-    if !Group::Changing.exported() {
-        return;
-    }
     for drive in 0..4 {
         let place = Place { drive, n: 3, s: 1, e: 2 };
         let mut image = reference::sample::fresh(drive, 3, 1, 2);

@@ -1,5 +1,4 @@
 //! Repair: of an all-zero partition, after every cut of every call, and cut itself at every store and started again.
-#![cfg(feature = "changing")]
 
 use reference::sample::{blank, fresh};
 use trials::both::Both;

@@ -1,6 +1,5 @@
 //! Random sequences of changing calls, every limit of each, on fresh and on scattered partitions; the whole image is
 //! compared with the reference's after every call.
-#![cfg(feature = "changing")]
 
 use reference::sample::{fresh, Rng};
 use reference::{DONE, REFUSED};

@@ -1,5 +1,4 @@
 //! Reading from sound partitions of every drive, with files of every length at which the index changes its form.
-#![cfg(feature = "reading")]
 
 use perq::{raw, Drive};
 use reference::sample::scattered;

@@ -1,8 +1,10 @@
-//! The reader of worked cases: a whole file is read, and one with a fault in it is an error, so that no case is left out.
+//! Worked cases: a whole file is read, and one with a fault in it is an error, so that no case is left out; and a case that
+//! runs nothing has failed.
 
+use trials::worked::{run, Side};
 use trials::worked_file::{parse, Step};
 
-/// A case with each kind of line, and one without calls.
+/// A case with each kind of line, and one with a call alone.
 const GOOD: &str = "# A remark.
 case 1 drive 3 records 2 s 1
 put 528 00ff
@@ -15,6 +17,7 @@ call tree 3 1 hex: pattern:64:0 -> 0 0 0 0 1 0 0 image 0123abcd buffer 89abcdef
 row 5 1 0 4142
 end
 case 2 drive 0 records 1 s 1
+call check 0 1 -> 2 2 0 0 0 0 0 image 2e7a33f6
 end
 ";
 
@@ -23,7 +26,7 @@ fn a_good_file_is_read() {
     let cases = parse(GOOD).expect("a good file");
     let names: Vec<(&str, usize, usize)> =
         cases.iter().map(|case| (&case.name[..], case.length, case.steps.len())).collect();
-    assert_eq!(names, [("1", 1_056, 6), ("2", 528, 0)]);
+    assert_eq!(names, [("1", 1_056, 6), ("2", 528, 1)]);
     let calls = cases[0].steps.iter().filter_map(|step| match step {
         Step::Call(expected) => Some((expected.line, expected.buffer_crc, expected.rows.len())),
         Step::Put(..) => None,
@@ -72,11 +75,50 @@ fn a_case_ends_where_it_says_so() {
         ["put 0 00", "call check 3 1 -> 2 2 0 0 0 0 0 image 0123abcd", "row 5 1 0 41", "end"];
     for step in steps {
         must_fail(&format!("{step}\n{GOOD}"), 1);
-        must_fail(&format!("{GOOD}{step}\n"), 14);
+        must_fail(&format!("{GOOD}{step}\n"), 15);
         must_fail(&GOOD.replace("case 2", &format!("{step}\ncase 2")), 12);
     }
     // Line 11 is the first end.
     must_fail(&GOOD.replacen("end\n", "", 1), 11);
     let open = GOOD.strip_suffix("end\n").expect("the last end");
     assert_eq!(parse(open).expect_err("a case without an end"), "case 2 has no end");
+}
+
+#[test]
+fn a_call_that_is_not_known_is_an_error() {
+    for name in ["chek", "lbn_to_pda", "show_pair", "perq_check", "Check"] {
+        must_fail(&GOOD.replacen("call check", &format!("call {name}"), 1), 4);
+    }
+    must_fail(&GOOD.replacen("call check 3 1 ", "call check 3 1 0 ", 1), 4);
+}
+
+#[test]
+fn a_file_without_cases_is_an_error() {
+    for text in ["", "\n\n", "# case 1 drive 3 records 2 s 1\n# end\n"] {
+        assert_eq!(parse(text).expect_err("no case"), "there is no case in it");
+    }
+}
+
+/// The counts and the complaints of a run over one case that starts as case 2 does, on both sides.
+fn ran(steps: &str) -> (u32, u32, String) {
+    let text = format!("case 2 drive 0 records 1 s 1\n{steps}end\n");
+    let cases = parse(&text).expect("a case");
+    let report = run(&cases, Side::Library);
+    assert_eq!(report, run(&cases, Side::Reference));
+    (report.passed, report.failed, report.complaints)
+}
+
+#[test]
+fn a_case_passes_only_with_a_call_and_as_worked_out() {
+    // One record of zeros has no partition at block 1: refused by 2. 2e7a33f6 is its CRC-32 by zlib.
+    let call = "call check 0 1 -> 2 2 0 0 0 0 0 image 2e7a33f6\n";
+    assert_eq!(ran(call), (1, 0, String::new()));
+    for nothing in ["", "put 0 00\n", "# call check 0 1\n"] {
+        assert_eq!(ran(nothing), (0, 1, "case 2: it has no call\n".to_string()));
+    }
+    let (passed, failed, complaints) = ran(&call.replace("2 2 0", "2 1 0"));
+    assert_eq!((passed, failed), (0, 1));
+    assert!(complaints.starts_with("case 2: line 2: Check answers "), "{complaints}");
+    let another = (0, 1, "case 2: line 2: Check leaves another image\n".to_string());
+    assert_eq!(ran(&call.replace("2e7a33f6", "2e7a33f7")), another);
 }

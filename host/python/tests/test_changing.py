@@ -8,7 +8,7 @@ import tapermoss
 from tapermoss import Drive, Refused, Summary
 
 from .sample import malformed, sample, set_pair
-from .worked import BASE, CHANGES, FILLS, REQUEST_1, Put, cases
+from .worked import BASE, REQUEST_1, Put, cases
 
 DRIVE = Drive.SHUGART12
 
@@ -99,9 +99,7 @@ class Worked(unittest.TestCase):
             self.assertGreater(count, least)
 
     def made_as_worked(self, image, step):
-        # The image comes first among the arguments, a buffer that is filled comes last.
-        writable = {0} if step.name in CHANGES else {len(step.arguments)} if step.name in FILLS else set()
-        found = tapermoss.call(step.name, image, *step.arguments, writable=writable)
+        found = tapermoss.call(step.name, image, *step.arguments)
         self.assertEqual(tuple(getattr(found, field) for field, _ in found._fields_), step.answer)
         self.assertEqual(zlib.crc32(image), step.image_sum)
         if step.buffer_sum is not None:

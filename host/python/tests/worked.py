@@ -7,8 +7,7 @@ import tapermoss
 
 FOLDER = os.path.join(os.path.dirname(__file__), '..', '..', '..', 'tests', 'worked')
 BASE, REQUEST_1 = (os.path.join(FOLDER, name) for name in ('base.txt', 'request-1.txt'))
-#: The calls whose buffer is filled, those of them whose buffer's sum stands in a case, and those that change the image.
-FILLS = {'read', 'description', 'extract', 'tree'}
+#: The calls whose buffer's sum stands in a case, and those that change the image.
 SUMMED = {'read', 'description', 'tree'}
 CHANGES = {'create', 'write', 'describe', 'destroy', 'repair'}
 
@@ -51,6 +50,8 @@ def cases(path):
             elif words[0] == 'row':
                 steps[-1].rows.append((*map(int, words[1:4]), bytes.fromhex(words[4])))
             elif words[0] == 'end':
+                if not any(isinstance(step, Call) for step in steps):
+                    raise ValueError(f'{path} has a case without a call: {number}')
                 yield number, image, steps
                 steps = None
             else:

@@ -14,18 +14,12 @@ fn commands() -> Vec<String> {
 }
 
 #[test]
-fn the_commands_are_those_of_the_groups_that_are_exported() {
+fn the_help_lists_every_command() {
     let conversions = ["address", "tour"].as_slice();
     let reading = ["partitions", "check", "files", "tree", "rule", "cat", "show", "map"].as_slice();
     let changing =
         ["repair", "batch", "create", "write", "describe", "destroy", "fresh"].as_slice();
-    let mut expected = conversions.to_vec();
-    if cfg!(feature = "reading") {
-        expected.extend(reading);
-    }
-    if cfg!(feature = "changing") {
-        expected.extend(changing);
-    }
+    let mut expected = [conversions, reading, changing].concat();
     let mut found = commands();
     found.sort();
     expected.sort_unstable();

@@ -43,7 +43,6 @@ impl Both {
     pub fn call_with(&mut self, call: &Call, repaired: &[u8]) -> (Answer, Vec<u8>) {
         let mut buffers = [call.buffer.clone(), call.buffer.clone()];
         let ours = on_library(call, &mut self.library, repaired, &mut buffers[0]);
-        let ours = ours.expect("the library exports the call");
         let theirs = on_reference(call, &mut self.reference, repaired, &mut buffers[1]);
         assert_eq!(ours, theirs, "library and reference answer otherwise to {}", told(call));
         let always = call.name.group() == Group::Changing || Name::DIRECTORIES.contains(&call.name);

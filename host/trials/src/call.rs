@@ -29,23 +29,12 @@ pub enum Name {
     Repair,
 }
 
-/// The groups in which the library exports its calls.
+/// What a call does with an image: it takes none, reads one or changes one.
 #[derive(Clone, Copy, Debug, PartialEq, Eq)]
 pub enum Group {
     Conversions,
     Reading,
     Changing,
-}
-
-impl Group {
-    /// Whether this build has the group from the library.
-    pub fn exported(self) -> bool {
-        match self {
-            Group::Conversions => true,
-            Group::Reading => cfg!(feature = "reading"),
-            Group::Changing => cfg!(feature = "changing"),
-        }
-    }
 }
 
 impl Name {
@@ -72,6 +61,11 @@ impl Name {
     pub const DIRECTORIES: [Name; 2] = [Name::LookUp, Name::Tree];
     pub const CHANGING: [Name; 5] =
         [Name::Create, Name::Write, Name::Describe, Name::Destroy, Name::Repair];
+
+    /// Every call.
+    pub fn all() -> impl Iterator<Item = Name> {
+        Name::CONVERSIONS.into_iter().chain(Name::READING).chain(Name::CHANGING)
+    }
 
     pub fn group(self) -> Group {
         if Name::CONVERSIONS.contains(&self) {
@@ -203,31 +197,20 @@ macro_rules! changing {
 }
 
 /// Makes a call on the library, on an image and a buffer that the caller lends; `repaired` is the second image of a
-/// pair. None if this build does not have the call.
-pub fn on_library(
-    call: &Call,
-    image: &mut [u8],
-    repaired: &[u8],
-    buffer: &mut [u8],
-) -> Option<Answer> {
+/// pair.
+pub fn on_library(call: &Call, image: &mut [u8], repaired: &[u8], buffer: &mut [u8]) -> Answer {
     on_library_lent(call, Lent { image, repaired, rule: &call.rule, path: &call.path, buffer })
 }
 
 /// The same with the rule and the path in memory of the caller's choice as well.
-pub fn on_library_lent(call: &Call, lent: Lent) -> Option<Answer> {
-    // A build without the later groups looks at nothing that is lent.
-    let _ = &lent;
+pub fn on_library_lent(call: &Call, lent: Lent) -> Answer {
     let answer = match call.name.group() {
         Group::Conversions => conversion!(raw, call),
-        #[cfg(feature = "reading")]
         Group::Reading => reading!(raw, call, lent),
-        #[cfg(feature = "changing")]
         Group::Changing => changing!(raw, call, lent),
-        #[allow(unreachable_patterns)]
-        _ => return None,
     };
     let raw::Answer { outcome, number, block, made, a, b, c } = answer;
-    Some(Answer { outcome, number, block, made, a, b, c })
+    Answer { outcome, number, block, made, a, b, c }
 }
 
 /// Makes a call on the reference.

@@ -13,17 +13,13 @@ pub enum Side {
     Reference,
 }
 
-/// What a run over the cases found.
+/// What a run over the cases found. Each case is counted once.
 #[derive(Clone, Debug, Default, PartialEq, Eq)]
 pub struct Report {
-    /// Cases of which every call that was made went as worked out.
+    /// Cases that have calls, all of which went as worked out.
     pub passed: u32,
     pub failed: u32,
-    /// Cases of which no call could be made.
-    pub not_run: u32,
-    /// Calls that this build of the library does not have, in all cases.
-    pub skipped_calls: u32,
-    /// A line for each call that went otherwise.
+    /// A line for each call that went otherwise, and for each case without a call.
     pub complaints: String,
 }
 
@@ -31,52 +27,46 @@ pub struct Report {
 pub fn run(cases: &[Case], side: Side) -> Report {
     let mut report = Report::default();
     for case in cases {
-        let (made, wrong) = run_case(case, side, &mut report);
-        match (made, wrong) {
-            (0, _) => report.not_run += 1,
-            (_, 0) => report.passed += 1,
-            _ => report.failed += 1,
+        let complaints = run_case(case, side);
+        match complaints.is_empty() {
+            true => report.passed += 1,
+            false => report.failed += 1,
+        }
+        for complaint in complaints {
+            let _ = writeln!(report.complaints, "case {}: {complaint}", case.name);
         }
     }
     report
 }
 
-/// How many calls of a case were made, and how many of them went wrong.
-fn run_case(case: &Case, side: Side, report: &mut Report) -> (u32, u32) {
+/// What is wrong with a case: nothing only if it has a call.
+fn run_case(case: &Case, side: Side) -> Vec<String> {
     let mut image = vec![0; case.length];
-    let (mut made, mut wrong) = (0, 0);
+    let (mut calls, mut complaints) = (0, Vec::new());
     for step in &case.steps {
-        let expected = match step {
-            Step::Put(at, bytes) => {
-                image[*at..][..bytes.len()].copy_from_slice(bytes);
-                continue;
+        match step {
+            Step::Put(at, bytes) => image[*at..][..bytes.len()].copy_from_slice(bytes),
+            Step::Call(expected) => {
+                calls += 1;
+                let wrong = run_call(expected, side, &mut image);
+                complaints.extend(wrong.map(|wrong| format!("line {}: {wrong}", expected.line)));
             }
-            Step::Call(expected) => expected,
-        };
-        let (by_side, complaint) = run_call(expected, side, &mut image);
-        made += u32::from(by_side);
-        report.skipped_calls += u32::from(!by_side);
-        if let Some(complaint) = complaint {
-            let (name, line) = (&case.name, expected.line);
-            let _ = writeln!(report.complaints, "case {name}, line {line}: {complaint}");
-            wrong += 1;
         }
     }
-    (made, wrong)
+    if calls == 0 {
+        complaints.push("it has no call".to_string());
+    }
+    complaints
 }
 
-/// Makes a call; answers whether the side made it itself, and what is wrong with it. One that this build of the library does
-/// not have is made by the reference instead, so that the case goes on from the right image.
-fn run_call(expected: &Expected, side: Side, image: &mut [u8]) -> (bool, Option<String>) {
+/// Makes a call; answers what is wrong with it.
+fn run_call(expected: &Expected, side: Side, image: &mut [u8]) -> Option<String> {
     let mut buffer = expected.call.buffer.clone();
-    let from_library = match side {
+    let answer = match side {
         Side::Library => on_library(&expected.call, image, &[], &mut buffer),
-        Side::Reference => None,
+        Side::Reference => on_reference(&expected.call, image, &[], &mut buffer),
     };
-    let by_side = side == Side::Reference || from_library.is_some();
-    let answer =
-        from_library.unwrap_or_else(|| on_reference(&expected.call, image, &[], &mut buffer));
-    (by_side, difference(expected, answer, image, &buffer))
+    difference(expected, answer, image, &buffer)
 }
 
 fn difference(expected: &Expected, answer: Answer, image: &[u8], buffer: &[u8]) -> Option<String> {

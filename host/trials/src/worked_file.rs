@@ -36,8 +36,8 @@ pub struct Case {
     pub steps: Vec<Step>,
 }
 
-/// The cases of a file, or what is wrong with it. A case lasts from its `case` to its `end`; between two of them only remarks
-/// stand.
+/// The cases of a file, at least one, or what is wrong with it. A case lasts from its `case` to its `end`; between two of them
+/// only remarks stand.
 pub fn parse(text: &str) -> Result<Vec<Case>, String> {
     let (mut cases, mut open): (Vec<Case>, Option<Case>) = (Vec::new(), None);
     for (number, line) in text.lines().enumerate().map(|(i, line)| (i + 1, line)) {
@@ -52,8 +52,9 @@ pub fn parse(text: &str) -> Result<Vec<Case>, String> {
         understood.ok_or_else(|| format!("line {number} is not understood: {:.60}", line))?;
     }
     match open {
-        None => Ok(cases),
         Some(case) => Err(format!("case {} has no end", case.name)),
+        None if cases.is_empty() => Err("there is no case in it".to_string()),
+        None => Ok(cases),
     }
 }
 

@@ -1,7 +1,6 @@
 //! bench: the library beside the reference, beside touching every header, and beside memcpy, as ratios of one run.
 //! `bench once WHAT M` makes one call only, for a tool that counts instructions around it.
 
-#[cfg(feature = "reading")]
 use perq::raw;
 use reference::sample::scattered;
 use reference::tree_sample::{plant, Line, Names, Node, Stand, Tree};
@@ -10,7 +9,6 @@ use std::hint::black_box;
 use std::time::Instant;
 
 const DRIVE: u32 = 2;
-#[cfg(feature = "reading")]
 const SIZES: [u32; 3] = [1_000, 8_000, 32_767];
 const ROUNDS: u32 = 15;
 
@@ -94,7 +92,6 @@ fn conversion(
 }
 
 /// Reads the 16 header bytes of each record.
-#[cfg(feature = "reading")]
 fn touch(image: &[u8]) -> u64 {
     let half = |record: &[u8], from: usize| {
         u64::from_le_bytes(record[from..from + 8].try_into().expect("8 bytes"))
@@ -102,7 +99,6 @@ fn touch(image: &[u8]) -> u64 {
     image.chunks_exact(528).fold(0, |sum, record| sum ^ half(record, 0) ^ half(record, 8))
 }
 
-#[cfg(feature = "reading")]
 fn checks() {
     for (what, make) in [
         ("check, long files", long_files as fn(u32) -> Vec<u8>),
@@ -128,7 +124,6 @@ fn checks() {
     }
 }
 
-#[cfg(feature = "reading")]
 fn extracts() {
     for length in [64, 4_160] {
         let image = scattered(DRIVE, 5_000, 1, 4_999, &[length], 1);
@@ -176,10 +171,8 @@ fn two_thousand_entries() -> Vec<u8> {
 }
 
 /// The last file of the last directory, so that both are looked through to the end.
-#[cfg(feature = "reading")]
 const LAST_PATH: &[u8] = b"name0020>name2000";
 
-#[cfg(feature = "reading")]
 fn directories() {
     let image = two_thousand_entries();
     let mut rows = vec![0; 32 * 2_000];
@@ -205,7 +198,6 @@ fn directories() {
     row("look up of a path in it", "", a, "ns", "reference", b);
 }
 
-#[cfg(feature = "changing")]
 fn repairs() {
     for m in SIZES {
         let mut one = long_files(m);
@@ -234,20 +226,16 @@ fn once(what: &str, m: u32) {
         "tree" | "look_up" => two_thousand_entries(),
         other => panic!("{other}: it is {ONCE}"),
     };
-    #[cfg(feature = "reading")]
     println!(
         "{:?}",
         match what {
             "tree" => raw::tree(&image, DRIVE, 1, &[], &mut vec![0; 32 * m as usize]),
             "look_up" => raw::look_up(&image, DRIVE, 1, &[], LAST_PATH),
             "extract" => raw::extract(&image, DRIVE, 1, 2, &mut vec![0; 512 * m as usize]),
-            #[cfg(feature = "changing")]
             "repair" => raw::repair(&mut image, DRIVE, 1, u32::MAX),
             _ => raw::check(&image, DRIVE, 1),
         }
     );
-    #[cfg(not(feature = "reading"))]
-    println!("{} bytes, and no call to count in", image.as_mut_slice().len());
 }
 
 fn main() {
@@ -258,12 +246,8 @@ fn main() {
     }
     println!("{:<26} {:>7} {:>9} {:<9} {:>9}", "call", "blocks", "library", "", "ratio");
     conversions();
-    #[cfg(feature = "reading")]
-    {
-        checks();
-        extracts();
-        directories();
-    }
-    #[cfg(feature = "changing")]
+    checks();
+    extracts();
+    directories();
     repairs();
 }

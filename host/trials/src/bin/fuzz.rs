@@ -20,12 +20,6 @@ const RECORD: usize = 528;
 const MOST_RECORDS: usize = 420;
 const CALLS: u32 = 30;
 
-/// The calls that this build has from the library.
-fn names() -> Vec<Name> {
-    let all = Name::CONVERSIONS.into_iter().chain(Name::READING).chain(Name::CHANGING);
-    all.filter(|name| name.group().exported()).collect()
-}
-
 /// Mostly a sound partition with some damage, at times bytes of no meaning under a good partition block. One in four has
 /// directories.
 fn some_image(rng: &mut Rng) -> Planted {
@@ -77,7 +71,7 @@ impl Room {
         let second = self.repaired.lend(repaired, side);
         let (rule, path) = (self.rule.lend(&call.rule, side), self.path.lend(&call.path, side));
         let slices = Lent { image: lent, repaired: second, rule, path, buffer };
-        let ours = on_library_lent(call, slices).expect("only exported calls are drawn");
+        let ours = on_library_lent(call, slices);
         let mut expected = call.buffer.clone();
         let theirs = on_reference(call, image, repaired, &mut expected);
         assert_eq!(ours, theirs, "the answers to {}", told(call));
@@ -110,7 +104,8 @@ fn main() {
         SystemTime::now().duration_since(UNIX_EPOCH).map_or(0, |time| time.as_nanos() as u64);
     let first: u64 =
         env::var("TAPERMOSS_SEED").ok().and_then(|text| text.parse().ok()).unwrap_or(clock);
-    let (names, mut room, start) = (names(), Room::new(), Instant::now());
+    let names: Vec<Name> = Name::all().collect();
+    let (mut room, start) = (Room::new(), Instant::now());
     println!("fuzz: {} calls for {seconds} seconds", names.len());
     let note = File::create("build/fuzz.seed")
         .expect("build/ is there: this runs at the top of the repository");
@@ -123,6 +118,7 @@ fn main() {
         round(&names, &mut room, &mut Rng::new(seed));
         rounds += 1;
     }
+    assert!(rounds > 0, "in {seconds} seconds no call is made");
     let calls = rounds * u64::from(CALLS);
     println!("fuzz: {calls} calls on {rounds} images, all as the reference has them");
     println!("1 passed, 0 failed");

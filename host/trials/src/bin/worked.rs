@@ -1,5 +1,6 @@
 //! worked FILE..: runs the worked cases of the files on the library, and on the reference that the tests compare it with. The
-//! last line is 'N passed, M failed', counted in cases of both runs over all files.
+//! last line is 'N passed, M failed', counted in cases of both runs over all files. A case without a call fails, and a file
+//! that cannot be read, or has a line that is not understood or no case, is one failure.
 
 use std::process::ExitCode;
 use trials::worked::{run, Side};
@@ -10,22 +11,27 @@ fn told(cases: &[Case], side: Side) -> (u32, u32) {
     let report = run(cases, side);
     print!("{}", report.complaints);
     println!("{side:?}: {} cases passed, {} failed", report.passed, report.failed);
-    if report.skipped_calls > 0 {
-        println!(
-            "{side:?}: {} calls are of a group that it does not export yet and were left out; {} cases have no other",
-            report.skipped_calls, report.not_run
-        );
-    }
     (report.passed, report.failed)
+}
+
+/// The cases of a file, or why there are none to run.
+fn cases_of(path: &str) -> Result<Vec<Case>, String> {
+    parse(&std::fs::read_to_string(path).map_err(|problem| problem.to_string())?)
 }
 
 /// Runs a file on both sides; answers how many cases passed and failed.
 fn both_sides(path: &str) -> (u32, u32) {
     println!("{path}");
-    let text = std::fs::read_to_string(path).unwrap_or_else(|problem| panic!("{path}: {problem}"));
-    let cases = parse(&text).unwrap_or_else(|problem| panic!("{path}: {problem}"));
-    let (library, reference) = (told(&cases, Side::Library), told(&cases, Side::Reference));
-    (library.0 + reference.0, library.1 + reference.1)
+    match cases_of(path) {
+        Ok(cases) => {
+            let (library, reference) = (told(&cases, Side::Library), told(&cases, Side::Reference));
+            (library.0 + reference.0, library.1 + reference.1)
+        }
+        Err(problem) => {
+            println!("{problem}");
+            (0, 1)
+        }
+    }
 }
 
 fn main() -> ExitCode {
