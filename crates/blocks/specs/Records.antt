@@ -11,7 +11,6 @@ use lib.Seq.{getD-set-same, getD-set-other}
 use borrow.Author.Tests.{ltb-true, ltb-false, eqb-true, eqb-false, leb-true, le-leb, lt-ltb, le-ltb}
 use Rattle.base.specs.Tests.{pick, both}
 use Rattle.base.specs.Laws.{iff-eq, both-left, both-right, both-of}
-use Rattle.drive.specs.Address.{pda}
 use Rattle.image.specs.View.{Rec}
 use Rattle.image.specs.Image.{recOf}
 use Rattle.volume.specs.Words.{slotAt}

@@ -7,7 +7,7 @@ ghost use Rattle.drive.specs.Address.{lda, orNil};
 ghost use Rattle.image.specs.View.{put, put2};
 ghost use Rattle.image.specs.Image.{view, recOf};
 ghost use Rattle.volume.specs.Words.{serialAt, fillerAt, nextAt, previousAt, freeHeadAt, freeTailAt, numberFreeAt};
-ghost use Rattle.volume.specs.Files.{partitionOf, owned};
+ghost use Rattle.volume.specs.Files.{owned};
 ghost use Rattle.volume.specs.Closed.{hasKey};
 ghost use Rattle.volume.specs.Plans.{asFiller, trimmed, shaped, relinked};
 ghost use Rattle.blocks.specs.Records.{cleared};

@@ -17,7 +17,7 @@ use Rattle.image.specs.Image.{view}
 use Rattle.image.specs.Stores.{stored}
 use Rattle.image.specs.Saves.{Made}
 use Rattle.volume.specs.Words.{nextAt, numberFreeAt}
-use Rattle.volume.specs.Files.{partitionOf, candidate, free, freeHead, chain}
+use Rattle.volume.specs.Files.{candidate, free, freeHead, chain}
 use Rattle.volume.specs.declared.Partition.{Partition}
 use Rattle.volume.specs.Plans.{Plan, stores, freeAt, freeTail, takenStores, createPlan, describePlan}
 use Rattle.volume.specs.Calls.{Planned, refuse, finish, room, createIn, describeIn, Answered}

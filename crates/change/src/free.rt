@@ -4,7 +4,7 @@ ghost use Rattle.drive.specs.Address.{pdaBlock};
 ghost use Rattle.image.specs.View.{pair};
 ghost use Rattle.image.specs.Image.{view};
 ghost use Rattle.volume.specs.Words.{nextAt};
-ghost use Rattle.volume.specs.Files.{partitionOf, freeHead};
+ghost use Rattle.volume.specs.Files.{freeHead};
 ghost use Rattle.volume.specs.Plans.{freeTail};
 ghost use Rattle.volume.specs.Calls.{room};
 ghost use Rattle.records.specs.Records.{Block};

@@ -5,7 +5,6 @@ ghost use Prim.Native.Nat.{_<_};
 ghost use lib.ListN.{length};
 ghost use Rattle.image.specs.Image.{view};
 ghost use Rattle.image.specs.Saves.{words};
-ghost use Rattle.volume.specs.Files.{partitionOf};
 ghost use Rattle.volume.specs.Calls.{createIn, describeIn, Answered, planned, create, describe};
 ghost use Rattle.change.specs.Gate.{gate, Opens, refusal, completion};
 use base::Refusal;

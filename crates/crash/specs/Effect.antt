@@ -13,7 +13,7 @@ use Rattle.image.specs.View.{upd-same, upd-other, View, Rec, after, upd}
 use Rattle.image.specs.Saves.{words, withData, withText}
 use Rattle.volume.specs.Words.{kindAt}
 use Rattle.volume.specs.Keys.{home}
-use Rattle.volume.specs.Files.{candidate, len, spot, present, name, wellFormed, isFile, free, freeHead, sound}
+use Rattle.volume.specs.Files.{candidate, len, present, name, wellFormed, isFile, free, freeHead, sound}
 use Rattle.volume.specs.declared.Partition.{Partition}
 use Rattle.volume.specs.Index.{spot-home, present-home}
 use Rattle.volume.specs.Frame.{SameHead, Shape, Clean, kept-len, kept-spot, kept-wellFormed}
@@ -30,7 +30,7 @@ use Rattle.crash.specs.FreeBlocks.{first-in, spot-unique, spot≢fib}
 use Rattle.crash.specs.Fresh.{fresh-nil, fresh-kind, fresh-cand, fresh-len, fresh-wf}
 use Rattle.crash.specs.Create.{create-good}
 use Rattle.crash.specs.OneBlock.{One, one-shape, describe-one, replace-one}
-use Rattle.crash.specs.Destroy.{no, destroy-good, D as destroyedView}
+use Rattle.crash.specs.Destroy.{no, destroy-good}
 
 module _ (π : Partition) (v w : View) where
   -- f is a new file without blocks

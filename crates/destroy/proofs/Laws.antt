@@ -9,7 +9,7 @@ use Rattle.image.specs.Image.{view}
 use Rattle.base.specs.declared.Refusal.the-variants.{NoCandidate}
 use Rattle.volume.specs.Keys.{home, low}
 use Rattle.volume.specs.Closed.{sizeOf, least-closed, size-closed}
-use Rattle.volume.specs.Files.{partitionOf, candidate, wellFormed, len, spot, present, freeHead}
+use Rattle.volume.specs.Files.{candidate, wellFormed, len, spot, present, freeHead}
 use Rattle.volume.specs.declared.Partition.{Partition}
 use Rattle.volume.specs.Plans.{destroyed, destroyPlan, freeTail}
 use Rattle.volume.specs.Calls.{refuse, finish, destroyIn}

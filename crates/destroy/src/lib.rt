@@ -1,6 +1,5 @@
 // The changing call destroy: the file's blocks go to the end of the free chain.
 ghost use Rattle.image.specs.Image.{view};
-ghost use Rattle.volume.specs.Files.{partitionOf};
 ghost use Rattle.volume.specs.Calls.{destroyIn, Answered, planned, destroy};
 ghost use Rattle.change.specs.Gate.{Opens};
 use base::Refusal;

@@ -16,7 +16,7 @@ use Rattle.drive.specs.Address.{lda, ldaBlock}
 use Rattle.image.specs.View.{pair}
 use Rattle.image.specs.Image.{view}
 use Rattle.volume.specs.Words.{fileTypeAt}
-use Rattle.volume.specs.Files.{partitionOf, isFile, isLda, name}
+use Rattle.volume.specs.Files.{isFile, isLda, name}
 use Rattle.volume.specs.declared.Partition.{Partition}
 use Rattle.volume.specs.Steps.{every-no, and-true, Passed, pass-next, pass-fails, pass-end, ne-of, eq-of}
 use Rattle.volume.specs.declared.Found.{Found}

@@ -4,7 +4,6 @@ ghost use mathlib.Core.Bool.{true};
 ghost use Prim.Native.Nat.{_+_, _≤_};
 ghost use lib.ListN.{length};
 ghost use Rattle.base.specs.Tests.{both};
-ghost use Rattle.volume.specs.Files.{partitionOf};
 ghost use Rattle.inspect.specs.Parts.{Opened};
 ghost use Rattle.directory.specs.Directory.{sameName, isRule, selected, nameAt, takenAt, find};
 use crate::entry;

@@ -4,7 +4,7 @@ ghost use mathlib.Core.Bool.{true};
 ghost use Prim.Native.Nat.{_-_, _≤_};
 ghost use lib.ListN.{length};
 ghost use Rattle.image.specs.Image.{view};
-ghost use Rattle.volume.specs.Files.{partitionOf, isFile};
+ghost use Rattle.volume.specs.Files.{isFile};
 ghost use Rattle.volume.specs.Reads.{Lies};
 ghost use Rattle.directory.specs.Directory.{isRule, selected, partEnd, entered, look, lookFrom, lookedAs, lookIn};
 use crate::Looked;

@@ -3,7 +3,7 @@
 -- b + offset. A number is decoded by guessing the only place that can have it, numbering that place again and comparing.
 use mathlib.Core.Bool.{Bool}
 use Prim.Native.Nat.{ℕ, _+_, _-_, _*_, _/_, _%_, _<_, _≤_}
-use lib.Dec.{ltb, leb, eqb}
+use lib.Dec.{ltb, eqb}
 use Rattle.base.specs.Tests.{both}
 
 -- how many blocks, and the place of the first; tracks a cylinder and sectors a track; the first sector's number, and the units

@@ -1,7 +1,7 @@
 -- Every number that a conversion answers fits 32 bits.
 use mathlib.Core.Path.{_≡_, refl}
-use mathlib.Core.Bool.{Bool, true, false, true≢false}
-use Prim.Native.Nat.{ℕ, _+_, _-_, _*_, _/_, _%_, _<_, _≤_}
+use mathlib.Core.Bool.{Bool, true, false}
+use Prim.Native.Nat.{ℕ, _<_, _≤_}
 use native.Mathlib.Omega.{arith}
 use lib.Dec.{ltb, eqb}
 use borrow.Author.Tests.{ltb-true}
@@ -12,10 +12,10 @@ use Rattle.base.specs.declared.Refusal.the-variants.{BadImage, NoAddress}
 use Rattle.drive.specs.declared.Converted.{Converted}
 use Rattle.drive.specs.declared.Converted.the-variants.{Number, Refused}
 use Rattle.drive.specs.Code.{placeNumber, encode}
-use Rattle.drive.specs.Rows.{Row, onDrive, pdaCode, ldaCode, idCode}
+use Rattle.drive.specs.Rows.{pdaCode, ldaCode, idCode}
 use Rattle.drive.specs.Address.{blocks, pda, pdaBlock, lda, ldaBlock, fileId, fileIdBlock, fileIds}
 use Rattle.drive.specs.Answers.{converted, lbnToPda, pdaToLbn, lbnToLda, ldaToLbn, lbnToFileId, fileIdToLbn}
-use Rattle.drive.specs.Laws.{rowOf, each-row, on-row, blocks-few}
+use Rattle.drive.specs.Laws.{each-row, on-row, blocks-few}
 
 -- the number of an answer fits, and so does a block that a refusal names
 abbrev pub Fits : Converted → Type 0

@@ -1,12 +1,12 @@
 -- The laws of addresses, once over the numbers of a code, then on every drive.
-use mathlib.Core.Path.{_≡_, refl, sym, ap, ap₂, _∙_}
+use mathlib.Core.Path.{_≡_, refl, sym, ap, _∙_}
 use mathlib.Core.Bool.{Bool, true, false}
 use Prim.Native.Nat.{ℕ, zero, suc, _+_, _-_, _*_, _/_, _%_, _<_, _≤_}
 use native.Mathlib.Nat.{mod-lt, div-add-mod', lt-of-lt-of-le, zero-div, zero-mod, zero-mul, add-zero, add-sub-cancel}
 use native.Mathlib.Omega.{arith}
 use lib.Arith.{digits-lt, digits-div, digits-mod}
 use mathlib.Core.Logic.{_≢_}
-use lib.Dec.{ltb, eqb}
+use lib.Dec.{eqb}
 use borrow.Author.Tests.{ne-eqb}
 use Rattle.base.specs.Tests.{pick}
 use Rattle.drive.specs.Code.{Code, Good, placeNumber, guess, encode, decode}

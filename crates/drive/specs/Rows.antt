@@ -1,5 +1,4 @@
 -- The numbers of the four drives, one row for each, and the three codes of a row.
-use mathlib.Core.Bool.{Bool}
 use Prim.Native.Nat.{ℕ, _*_}
 use lib.Dec.{eqb}
 use Rattle.base.specs.Tests.{pick}

@@ -8,13 +8,13 @@ use native.Mathlib.Omega.{arith}
 use native.Mathlib.Nat.{sub-zero, zero-sub, suc-sub-suc, not-suc-le-zero}
 use lib.Dec.{ltb, eqb, leb}
 use lib.ListN.{getD, length, take, drop, set, length-append, length-take, length-drop, length-set, List·getD-append, List·getD-eq-default, replicate, getD-replicate, drop-of-length-le}
-use lib.Seq.{getD-set-same, getD-set-other, length-take-le, getD-take, getD-drop, getD-append-add, take-nil, take-length, take-all, drop-drop, take-take}
-use borrow.Author.Tests.{ltb-true, ltb-false, lt-ltb, le-ltb, eqb-true, eqb-false, eq-eqb, ne-eqb, leb-true, le-leb, lt-leb}
+use lib.Seq.{getD-set-same, getD-set-other, length-take-le, getD-take, getD-drop, getD-append-add, take-nil, take-length, take-all, drop-drop}
+use borrow.Author.Tests.{ltb-true, ltb-false, lt-ltb, le-ltb, eqb-true, eqb-false, leb-true, le-leb, lt-leb}
 use Rattle.base.specs.Tests.{pick, both}
-use Rattle.image.specs.View.{View, Rec, Store, put, put2, blank}
-use Rattle.image.specs.Image.{view, view-at, recOf, rec-at, Bytes}
-use Rattle.image.specs.Stores.{bytesOf, over, stored, In, bytes-rec, bytes-length}
-use Rattle.image.specs.Saves.{when, saves, words, withData, withText, Applied, Made}
+use Rattle.image.specs.View.{Rec, Store, put, blank}
+use Rattle.image.specs.Image.{view, recOf, rec-at, Bytes}
+use Rattle.image.specs.Stores.{bytesOf, over, stored, In, bytes-rec}
+use Rattle.image.specs.Saves.{when, words, withData, withText, Applied, Made}
 
 -- ---- copies
 

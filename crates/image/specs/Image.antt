@@ -1,17 +1,14 @@
 -- The lent image, a list of bytes, as a view. A view settles the image.
-use mathlib.Core.Path.{_≡_, refl, sym, ap, ap₂, _∙_, subst}
-use mathlib.Core.List.{List, [], _∷_, _++_}
-use mathlib.Core.Bool.{Bool, true, false}
-use mathlib.Core.Logic.{_⊎_, inl, inr, _≢_}
-use Prim.Native.Nat.{ℕ, zero, suc, _+_, _-_, _*_, _/_, _%_, _≤_, _<_}
+use mathlib.Core.Path.{_≡_, refl, sym, _∙_, subst}
+use mathlib.Core.List.{List}
+use Prim.Native.Nat.{ℕ, zero, suc, _+_, _*_, _/_, _%_, _<_}
 use native.Mathlib.Omega.{arith}
-use lib.Dec.{ltb, eqb}
-use lib.ListN.{getD, length, set}
-use lib.Seq.{ext-getD, getD-set-same, getD-set-other}
-use lib.Arith.{digits-div, digits-mod}
-use borrow.Author.Tests.{ltb-true, ltb-false, lt-ltb, le-ltb}
+use lib.Dec.{ltb}
+use lib.ListN.{getD, length}
+use lib.Seq.{ext-getD}
+use borrow.Author.Tests.{lt-ltb}
 use Rattle.base.specs.Tests.{pick}
-use Rattle.image.specs.View.{View, Rec, upd, pair}
+use Rattle.image.specs.View.{View, Rec}
 
 -- word w of block b: its low byte is byte 528 b + 2 w; a record has 264 words
 unfoldable pub view : List ℕ → View

@@ -2,13 +2,13 @@
 use mathlib.Core.Path.{_≡_}
 use mathlib.Core.Bool.{Bool, true, false}
 use mathlib.Core.List.{List, [], _∷_, _++_}
-use Prim.Native.Nat.{ℕ, zero, suc, _+_, _-_, _*_, _/_, _%_, _≤_, _<_}
+use Prim.Native.Nat.{ℕ, _+_, _-_, _*_, _≤_}
 use lib.Dec.{leb, ltb}
 use lib.ListN.{length, take, getD}
 use Rattle.base.specs.Tests.{pick, both}
 use Rattle.image.specs.View.{Rec, Store}
 use Rattle.image.specs.Image.{recOf}
-use Rattle.image.specs.Stores.{stored, In}
+use Rattle.image.specs.Stores.{stored}
 use Rattle.image.specs.declared.Save.{Save}
 
 -- one store, where `on`

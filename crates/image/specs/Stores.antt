@@ -5,14 +5,13 @@ use mathlib.Core.Bool.{Bool, true, false}
 use mathlib.Core.Logic.{_≢_}
 use Prim.Native.Nat.{ℕ, zero, suc, _+_, _-_, _*_, _/_, _%_, _≤_, _<_}
 use native.Mathlib.Omega.{arith}
-use native.Mathlib.Nat.{sub-zero, zero-sub, suc-sub-suc}
 use native.Mathlib.Decide.{decLt}
-use lib.Dec.{ltb, eqb, leb}
-use lib.ListN.{getD, length, take, drop, set, length-append, length-take, length-drop, length-set, List·getD-append}
-use lib.Seq.{ext-getD, getD-set-same, getD-set-other, length-take-le, getD-take, getD-drop, getD-append-add, take-nil}
-use borrow.Author.Tests.{ltb-true, ltb-false, lt-ltb, le-ltb, eqb-true, eqb-false, eq-eqb, ne-eqb}
-use Rattle.base.specs.Tests.{pick, both}
-use Rattle.image.specs.View.{View, Rec, Store, upd, after, put, put2}
+use lib.Dec.{ltb, eqb}
+use lib.ListN.{getD, length, take, drop, length-append, length-drop, List·getD-append}
+use lib.Seq.{ext-getD, length-take-le, getD-take, getD-drop, getD-append-add}
+use borrow.Author.Tests.{ltb-true, ltb-false, eqb-true, eqb-false}
+use Rattle.base.specs.Tests.{pick}
+use Rattle.image.specs.View.{Rec, Store, upd, after}
 use Rattle.image.specs.Image.{view, view-at, recOf, rec-at, Bytes}
 
 -- the bytes of the k words of r from i on

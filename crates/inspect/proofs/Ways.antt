@@ -19,7 +19,7 @@ use Rattle.image.specs.Signed.{signed}
 use Rattle.volume.specs.Words.{lastBlockAt}
 use Rattle.volume.specs.Keys.{home, reach, low}
 use Rattle.volume.specs.KeyLaws.{first-pointer, closed-ptr}
-use Rattle.volume.specs.Files.{partitionOf, wellFormed, len}
+use Rattle.volume.specs.Files.{wellFormed, len}
 use Rattle.volume.specs.declared.Partition.{Partition}
 use Rattle.volume.specs.Steps.{every-no, and-true}
 use Rattle.volume.specs.Reads.{Lies}

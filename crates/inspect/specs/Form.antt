@@ -9,7 +9,7 @@ use lib.Dec.{leb, ltb, eqb}
 use borrow.Author.Tests.{ltb-true, ltb-false, eqb-true, eqb-false, lt-ltb, le-ltb, eq-eqb, le-leb, leb-true}
 use Rattle.base.specs.Tests.{both, every, all}
 use Rattle.base.specs.Laws.{all-at, all-of, both-left, both-right, both-of, every-at, iff-eq}
-use Rattle.drive.specs.Address.{pda, lda, ldaBlock}
+use Rattle.drive.specs.Address.{lda, ldaBlock}
 use Rattle.drive.specs.Laws.{lda-pos}
 use Rattle.image.specs.View.{View, pair}
 use Rattle.volume.specs.Words.{relativeAt, directAt, indirectAt, doubleAt, inUseAt, lastAddressAt, lowNumberAt, lowAddressAt}

@@ -4,7 +4,7 @@ ghost use Prim.Native.Nat.{_+_, _*_, _≤_, _<_};
 ghost use lib.ListN.{length};
 ghost use Rattle.base.specs.Tests.{all};
 ghost use Rattle.image.specs.Image.{view};
-ghost use Rattle.volume.specs.Files.{partitionOf, len, wellFormed};
+ghost use Rattle.volume.specs.Files.{len, wellFormed};
 ghost use Rattle.volume.specs.Reads.{Lies};
 ghost use Rattle.inspect.specs.Form.{nilFrom, nilsGood, numbersGood};
 ghost use Rattle.inspect.specs.Parts.{Readable};

@@ -10,7 +10,7 @@ ghost use Rattle.base.specs.Tests.{pick, all};
 ghost use Rattle.drive.specs.Address.{pda};
 ghost use Rattle.image.specs.Image.{view};
 ghost use Rattle.image.specs.Signed.{wordOf};
-ghost use Rattle.volume.specs.Files.{partitionOf, len, spot, present, name};
+ghost use Rattle.volume.specs.Files.{len, spot, present, name};
 ghost use Rattle.volume.specs.Reads.{Lies};
 ghost use Rattle.inspect.specs.Form.{names, pointerTest, dataTest, indexGood};
 ghost use Rattle.inspect.specs.Parts.{Opened, Readable};

@@ -3,7 +3,7 @@ ghost use mathlib.Core.Path.{_≡_};
 ghost use Prim.Native.Nat.{_+_, _*_, _≤_, _<_};
 ghost use lib.ListN.{length};
 ghost use Rattle.image.specs.Image.{view};
-ghost use Rattle.volume.specs.Files.{partitionOf, isLda, candidate, isFile, isMalformed};
+ghost use Rattle.volume.specs.Files.{isLda, candidate, isFile, isMalformed};
 ghost use Rattle.volume.specs.Answers.{imageGood, partGood, partition, lowestMalformed};
 ghost use Rattle.volume.specs.Reads.{Lies};
 use base::Refusal;

@@ -16,7 +16,7 @@ use Rattle.image.specs.Image.{view}
 use Rattle.volume.specs.Words.{serialAt, relativeAt}
 use Rattle.volume.specs.Keys.{home, keyOf, low}
 use Rattle.volume.specs.KeyLaws.{low-pos}
-use Rattle.volume.specs.Files.{partitionOf, isMalformed, candidate, wellFormed, isFile, len, spot, present, above, below, least, link, fileOf, key, owned}
+use Rattle.volume.specs.Files.{isMalformed, candidate, wellFormed, isFile, len, spot, present, above, below, least, link, fileOf, key, owned}
 use Rattle.volume.specs.declared.Partition.{Partition}
 use Rattle.volume.specs.Index.{present-low, present-high}
 use Rattle.volume.specs.Closed.{hasKey, nextKey, prevKey, has-only, present-closed, above-closed, below-closed, least-closed}

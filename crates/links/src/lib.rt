@@ -10,7 +10,7 @@ ghost use Rattle.image.specs.View.{pair};
 ghost use Rattle.image.specs.Image.{view};
 ghost use Rattle.volume.specs.Words.{relativeAt, nextAt, previousAt, slotAt};
 ghost use Rattle.volume.specs.Keys.{keyOf, child, first};
-ghost use Rattle.volume.specs.Files.{partitionOf, owned, len, present, above, below, link, linked};
+ghost use Rattle.volume.specs.Files.{owned, len, present, above, below, link, linked};
 ghost use Rattle.volume.specs.Answers.{Unmarred};
 ghost use Rattle.volume.specs.Reads.{Lies};
 ghost use Rattle.inspect.specs.Parts.{Opened};

@@ -3,7 +3,6 @@ ghost use mathlib.Core.Path.{_≡_};
 ghost use lib.Dec.{ltb};
 ghost use Rattle.base.specs.Tests.{pick};
 ghost use Rattle.image.specs.Image.{view};
-ghost use Rattle.volume.specs.Files.{partitionOf};
 ghost use Rattle.volume.specs.Answers.{fileAbove, nextFile};
 ghost use Rattle.volume.specs.Reads.{Lies};
 use volume::Found;

@@ -13,7 +13,7 @@ use Rattle.base.specs.declared.Refusal.the-variants.{BadImage, BadPartition, Ma
 use Rattle.image.specs.View.{View}
 use Rattle.image.specs.Image.{view}
 use Rattle.image.specs.Saves.{words}
-use Rattle.volume.specs.Files.{partitionOf, inside, candidate, wellFormed, isFile, isMalformed, owned, sound, blockAt, len, name, freeHead, free, unowned}
+use Rattle.volume.specs.Files.{partitionOf, candidate, wellFormed, isFile, isMalformed, owned, sound, blockAt, len, name, freeHead, free, unowned}
 use Rattle.volume.specs.declared.Partition.{Partition}
 use Rattle.volume.specs.Keys.{reach}
 use Rattle.volume.specs.KeyLaws.{first-data}

@@ -5,14 +5,12 @@ use mathlib.Core.List.{List}
 use Prim.Native.Nat.{ℕ}
 use lib.ListN.{length, take}
 use Rattle.base.specs.Refusals.{number, culprit}
-use Rattle.base.specs.declared.Refusal.{Refusal}
 use Rattle.drive.specs.declared.Converted.{Converted}
 use Rattle.drive.specs.declared.Converted.the-variants as convert
 use Rattle.image.specs.Stores.{stored}
 use Rattle.volume.specs.Calls.{Planned}
 use Rattle.volume.specs.declared.Outcome.{Outcome}
 use Rattle.volume.specs.declared.Outcome.the-variants.{Done, Absent, Refused}
-use Rattle.volume.specs.declared.PairAnswer.{PairAnswer}
 use Rattle.perq.specs.declared.PerqAnswer.{PerqAnswer}
 
 abbrev pub answer : ℕ → ℕ → ℕ → ℕ → ℕ → ℕ → ℕ → PerqAnswer

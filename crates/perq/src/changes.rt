@@ -1,5 +1,4 @@
 // The calls that change the image, for a host: only the first `limit` stores are made.
-ghost use mathlib.Core.Path.{_≡_};
 ghost use Rattle.volume.specs.Calls.{planned, create, write, describe, destroy, repair};
 ghost use Rattle.perq.specs.Flat.{Changed};
 use crate::PerqAnswer;

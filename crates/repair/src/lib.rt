@@ -4,7 +4,7 @@ ghost use mathlib.Core.Path.{_≡_};
 ghost use Prim.Native.Nat.{suc, _-_};
 ghost use Rattle.base.specs.Tests.{those, headOf};
 ghost use Rattle.image.specs.Image.{view};
-ghost use Rattle.volume.specs.Files.{partitionOf, unowned};
+ghost use Rattle.volume.specs.Files.{unowned};
 ghost use Rattle.volume.specs.Calls.{repairIn, planned, Call, Answered};
 ghost use Rattle.volume.specs.declared.Outcome.the-variants.{Refused};
 ghost use Rattle.blocks.specs.Ready.{Ready};

@@ -4,7 +4,6 @@ ghost use mathlib.Core.List.{[]};
 ghost use Prim.Native.Nat.{_+_, _*_, _≤_};
 ghost use lib.ListN.{length, take, drop};
 ghost use Rattle.image.specs.Image.{view};
-ghost use Rattle.volume.specs.Files.{partitionOf};
 ghost use Rattle.volume.specs.Answers.{showIn, shown, partOf, shownPair, partOfPair};
 ghost use Rattle.volume.specs.Reads.{Lies};
 use base::Refusal;

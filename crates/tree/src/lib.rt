@@ -5,7 +5,7 @@ ghost use mathlib.Core.Bool.{true};
 ghost use Prim.Native.Nat.{_*_, _≤_, _<_};
 ghost use lib.ListN.{length};
 ghost use Rattle.image.specs.Image.{view};
-ghost use Rattle.volume.specs.Files.{partitionOf, isFile};
+ghost use Rattle.volume.specs.Files.{isFile};
 ghost use Rattle.volume.specs.Reads.{Lies};
 ghost use Rattle.directory.specs.Directory.{isRule, mostRows, treeRoot, treeIn, treed, lay};
 ghost use Rattle.volume.specs.declared.Found.the-variants.{At};

@@ -4,7 +4,7 @@ ghost use Prim.Native.Nat.{_+_, _*_, _/_, _%_, _≤_, _<_};
 ghost use lib.ListN.{length};
 ghost use Rattle.base.specs.Tests.{pick};
 ghost use Rattle.image.specs.Image.{view};
-ghost use Rattle.volume.specs.Files.{partitionOf, len};
+ghost use Rattle.volume.specs.Files.{len};
 ghost use Rattle.inspect.specs.Parts.{Opened};
 ghost use Rattle.directory.specs.Directory.{nameLength, nameAt, placeOf, rowOf, lay};
 use directory::entry;

@@ -7,7 +7,6 @@ use Rattle.base.specs.declared.Refusal.the-variants.{BadPartition}
 use Rattle.volume.specs.Answers.{checked}
 use Rattle.volume.specs.Calls.{planned, repair, Answered}
 use Rattle.volume.specs.declared.Answer.{Answer}
-use Rattle.volume.specs.declared.Outcome.{Outcome}
 use Rattle.volume.specs.declared.Outcome.the-variants.{Done, Absent, Refused}
 use Rattle.verdict.specs.declared.Course.{Course}
 use Rattle.verdict.specs.declared.Verdict.the-variants as came

@@ -9,7 +9,7 @@ use Rattle.base.specs.declared.Refusal.{Refusal}
 use Rattle.base.specs.declared.Refusal.the-variants.{BadPartition, Unsound}
 use Rattle.image.specs.Stores.{stored}
 use Rattle.volume.specs.Answers.{checked}
-use Rattle.volume.specs.Calls.{Planned, planned, repair}
+use Rattle.volume.specs.Calls.{planned, repair}
 use Rattle.volume.specs.declared.Outcome.{Outcome}
 use Rattle.volume.specs.declared.Outcome.the-variants.{Done, Absent, Refused}
 use Rattle.verdict.specs.declared.Course.{Course}

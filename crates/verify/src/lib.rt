@@ -1,11 +1,11 @@
 // Code that decides soundness: the walk of the free chain, one pass over the blocks and the files among them, and check.
 ghost use mathlib.Core.Path.{_≡_};
-ghost use mathlib.Core.Bool.{true, false};
+ghost use mathlib.Core.Bool.{false};
 ghost use Prim.Native.Nat.{_+_, _-_, _≤_, _<_};
 ghost use Rattle.base.specs.Tests.{all};
 ghost use Rattle.base.specs.Sums.{sum};
 ghost use Rattle.image.specs.Image.{view};
-ghost use Rattle.volume.specs.Files.{partitionOf, fileTest, freeSound, sound};
+ghost use Rattle.volume.specs.Files.{fileTest, freeSound, sound};
 ghost use Rattle.volume.specs.Answers.{Unmarred, checkIn, checked};
 ghost use Rattle.volume.specs.Reads.{Lies};
 ghost use Rattle.verify.specs.Walks.{onward, stepAt, walk, walked, named};

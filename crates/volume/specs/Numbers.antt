@@ -1,7 +1,7 @@
 -- Each of document 01's numbers 1 to 10 is given by some input: no refusal is vacuous. By computation.
 use mathlib.Core.Path.{_≡_, refl}
 use mathlib.Core.List.{List, [], _∷_, _++_}
-use Prim.Native.Nat.{ℕ, _+_, _-_}
+use Prim.Native.Nat.{ℕ}
 use lib.Dec.{eqb}
 use lib.ListN.{take}
 use Rattle.base.specs.Tests.{pick, both, every, tabFrom, headOf, lastOf, those, all, count, occ, sameRow, sameTable}

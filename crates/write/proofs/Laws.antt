@@ -12,7 +12,7 @@ use Rattle.image.specs.View.{View, Rec, pair}
 use Rattle.image.specs.Image.{view}
 use Rattle.volume.specs.Words.{nextAt}
 use Rattle.volume.specs.Keys.{reach}
-use Rattle.volume.specs.Files.{partitionOf, candidate, len, name, freeHead}
+use Rattle.volume.specs.Files.{candidate, len, name, freeHead}
 use Rattle.volume.specs.declared.Partition.{Partition}
 use Rattle.volume.specs.Plans.{freeAt}
 use Rattle.volume.specs.Writes.{over, needs, writePlan, replacePlan}

@@ -7,7 +7,7 @@ ghost use Rattle.base.specs.Tests.{pick};
 ghost use Rattle.image.specs.Image.{view};
 ghost use Rattle.image.specs.Saves.{words};
 ghost use Rattle.volume.specs.Keys.{reach};
-ghost use Rattle.volume.specs.Files.{partitionOf, candidate, len};
+ghost use Rattle.volume.specs.Files.{candidate, len};
 ghost use Rattle.volume.specs.Calls.{appendIn, writeIn, Answered, planned, write};
 ghost use Rattle.change.specs.Gate.{Opens};
 use append::Append;

@@ -2,7 +2,6 @@ use native.Mathlib.Omega.{arith}
 use denote.Ref.{now}
 use borrow.Author.Needs.{needs}
 use Rattle.blocks.specs.Relink.{Filed, filed, file-in}
-use Rattle.volume.specs.Files.{partitionOf}
 use Rattle.blocks.proofs.relinked.Statement.{statement}
 use Rattle.blocks.proofs.relinked.Tie as tie
 

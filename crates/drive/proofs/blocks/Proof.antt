@@ -1,9 +1,8 @@
-use mathlib.Core.Path.{refl, sym, _∙_}
+use mathlib.Core.Path.{refl, sym}
 use native.Mathlib.Omega.{arith}
-use Rattle.drive.specs.Code.{placeNumber, guess, encode, decode}
-use Rattle.drive.specs.Rows.{onDrive, pdaCode, ldaCode}
-use Rattle.drive.specs.Address.{blocks, fileIds, pda, pdaBlock, lda, ldaBlock}
-use Rattle.drive.specs.Laws.{hard, soft}
+use Rattle.drive.specs.Rows.{onDrive}
+use Rattle.drive.specs.Address.{blocks}
+use Rattle.drive.specs.Laws.{soft}
 use Rattle.drive.proofs.blocks.Statement.{statement}
 use Rattle.drive.proofs.blocks.Tie as tie
 

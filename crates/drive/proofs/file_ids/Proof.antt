@@ -1,9 +1,7 @@
-use mathlib.Core.Path.{refl, sym, _∙_}
-use native.Mathlib.Omega.{arith}
-use Rattle.drive.specs.Code.{placeNumber, guess, encode, decode}
-use Rattle.drive.specs.Rows.{onDrive, pdaCode, ldaCode}
-use Rattle.drive.specs.Address.{blocks, fileIds, pda, pdaBlock, lda, ldaBlock}
-use Rattle.drive.specs.Laws.{hard, soft}
+use mathlib.Core.Path.{sym}
+use Rattle.drive.specs.Rows.{onDrive}
+use Rattle.drive.specs.Address.{fileIds}
+use Rattle.drive.specs.Laws.{soft}
 use Rattle.drive.proofs.file_ids.Statement.{statement}
 use Rattle.drive.proofs.file_ids.Tie as tie
 

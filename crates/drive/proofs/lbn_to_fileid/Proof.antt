@@ -1,9 +1,4 @@
-use mathlib.Core.Path.{sym, _∙_}
-use native.Mathlib.Omega.{arith}
-use borrow.Author.Tests.{lt-ltb, le-ltb}
-use Rattle.base.specs.Tests.{both}
-use Rattle.drive.specs.Answers.{lbnToPda, pdaToLbn, lbnToLda, ldaToLbn, lbnToFileId, fileIdToLbn}
-use Rattle.drive.specs.Laws.{hard-id, soft-id, hard-id-block, soft-id-block}
+use Rattle.drive.specs.Answers.{lbnToFileId}
 use borrow.Author.Needs.{needs}
 use Rattle.drive.proofs.lbn_to_fileid.Statement.{statement}
 use Rattle.drive.proofs.lbn_to_fileid.Tie as tie

@@ -1,9 +1,6 @@
-use mathlib.Core.Path.{refl, sym, _∙_}
+use mathlib.Core.Path.{sym, _∙_}
 use native.Mathlib.Omega.{arith}
-use Rattle.drive.specs.Code.{placeNumber, guess, encode, decode}
-use Rattle.drive.specs.Rows.{onDrive, pdaCode, ldaCode}
-use Rattle.drive.specs.Address.{blocks, fileIds, pda, pdaBlock, lda, ldaBlock}
-use Rattle.drive.specs.Laws.{hard, soft, hard-lda, soft-lda, hard-block, soft-block}
+use Rattle.drive.specs.Laws.{hard-block, soft-block}
 use borrow.Author.Needs.{needs}
 use Rattle.drive.proofs.lda_block.Statement.{statement}
 use Rattle.drive.proofs.lda_block.Tie as tie

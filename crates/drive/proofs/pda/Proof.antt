@@ -1,9 +1,8 @@
-use mathlib.Core.Path.{refl, sym, _∙_}
 use native.Mathlib.Omega.{arith}
-use Rattle.drive.specs.Code.{placeNumber, guess, encode, decode}
-use Rattle.drive.specs.Rows.{onDrive, pdaCode, ldaCode}
-use Rattle.drive.specs.Address.{blocks, fileIds, pda, pdaBlock, lda, ldaBlock}
-use Rattle.drive.specs.Laws.{hard, soft}
+use Rattle.drive.specs.Code.{placeNumber, encode}
+use Rattle.drive.specs.Rows.{onDrive, pdaCode}
+use Rattle.drive.specs.Address.{pda}
+use Rattle.drive.specs.Laws.{soft}
 use borrow.Author.Needs.{needs}
 use Rattle.drive.proofs.pda.Statement.{statement}
 use Rattle.drive.proofs.pda.Tie as tie

@@ -1,7 +1,6 @@
 use mathlib.Core.Path.{sym, _∙_}
 use Prim.Native.Nat.{_+_, _-_, _*_}
 use native.Mathlib.Omega.{arith}
-use Rattle.volume.specs.Files.{partitionOf}
 use Rattle.reading.proofs.Laws.{part-long}
 use Rattle.extract.proofs.Laws.{Copied, copied-none, copied-next, copied-all}
 use Rattle.extract.proofs.copy_blocks.Statement.{statement}

@@ -3,10 +3,6 @@ use Rattle.image.proofs.Laws.{then, made}
 use borrow.Author.Needs.{needs}
 use Rattle.image.proofs.perform.Statement.{statement}
 use Rattle.image.proofs.perform.Tie as tie
-use Rattle.image.proofs.perform.Reads as reads
-use Rattle.image.proofs.perform.Lts as lts
-use Rattle.image.proofs.step.Reads as step-reads
-use Rattle.image.proofs.used.Reads as used-reads
 
 -- src/lib.rt:134:9
 step-requires : tie.Need-step-requires

@@ -1,21 +1,14 @@
 -- HEAD
-use mathlib.Core.Path.{_≡_, refl, sym, ap, ap₂, _∙_}
-use Prim.Native.Nat.{ℕ, suc, _+_, _-_, _*_, _/_, _%_, _≤_, _<_}
+use mathlib.Core.Path.{ap, _∙_}
+use Prim.Native.Nat.{_+_, _-_, _*_}
 use native.Mathlib.Omega.{arith}
-use lib.ListN.{length}
 use denote.Ref.{now}
-use Rattle.image.specs.View.{put, put2}
-use Rattle.image.specs.Image.{view, recOf}
-use Rattle.image.specs.Stores.{bytesOf, over}
-use Rattle.image.specs.Saves.{words, withData, withText}
-use Rattle.image.proofs.Laws.{copied-out, word-set, copied, stored-at, data-set, text-set, blank-rec}
+use Rattle.image.specs.Image.{recOf}
+use Rattle.image.proofs.Laws.{copied-out}
 -- END
 use borrow.Author.Needs.{needs}
 use Rattle.image.proofs.record.Statement.{statement}
 use Rattle.image.proofs.record.Tie as tie
-use Rattle.image.proofs.record.Reads as reads
-use Rattle.image.proofs.record.Lts as lts
-use Rattle.bytes.proofs.copy.Reads as copy-reads
 
 -- src/lib.rt:17:14
 mul-at : tie.Need-mul-at

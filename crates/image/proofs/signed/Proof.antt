@@ -1,5 +1,5 @@
 use mathlib.Core.Path.{_≡_, _∙_}
-use Prim.Native.Nat.{ℕ, suc, _-_, _≤_, _<_}
+use Prim.Native.Nat.{ℕ, suc, _-_, _<_}
 use native.Mathlib.Omega.{arith}
 use borrow.Author.Needs.{needs}
 use borrow.Author.Tests.{lt-ltb}
@@ -7,7 +7,7 @@ use lib.IntN.{pos, negsuc, _-ℤ_}
 use mir.Syntax.{w32}
 use mir.Val.{SFits, toZ}
 use mir.ValLaws.{toZ-pos, toZ-ofZ}
-use Rattle.image.specs.Signed.{signed, signed-low, signed-high}
+use Rattle.image.specs.Signed.{signed-low, signed-high}
 use Rattle.image.proofs.signed.Statement.{statement}
 use Rattle.image.proofs.signed.Tie as tie
 

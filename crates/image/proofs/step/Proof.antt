@@ -3,9 +3,6 @@ use Rattle.image.proofs.Laws.{step-made, step-full, step-off}
 use borrow.Author.Needs.{needs}
 use Rattle.image.proofs.step.Statement.{statement}
 use Rattle.image.proofs.step.Tie as tie
-use Rattle.image.proofs.step.Reads as reads
-use Rattle.image.proofs.step.Lts as lts
-use Rattle.image.proofs.store_at.Reads as store-at-reads
 
 -- src/lib.rt:115:13
 store-at-requires : tie.Need-store-at-requires

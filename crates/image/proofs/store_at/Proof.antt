@@ -1,21 +1,13 @@
 -- HEAD
-use mathlib.Core.Path.{_≡_, refl, sym, ap, ap₂, _∙_}
-use Prim.Native.Nat.{ℕ, suc, _+_, _-_, _*_, _/_, _%_, _≤_, _<_}
+use Prim.Native.Nat.{_-_, _*_}
 use native.Mathlib.Omega.{arith}
 use lib.ListN.{length}
 use denote.Ref.{now}
-use Rattle.image.specs.View.{put, put2}
-use Rattle.image.specs.Image.{view, recOf}
-use Rattle.image.specs.Stores.{bytesOf, over}
-use Rattle.image.specs.Saves.{words, withData, withText}
-use Rattle.image.proofs.Laws.{copied-out, word-set, copied, stored-at, data-set, text-set, blank-rec}
+use Rattle.image.proofs.Laws.{stored-at}
 -- END
 use borrow.Author.Needs.{needs}
 use Rattle.image.proofs.store_at.Statement.{statement}
 use Rattle.image.proofs.store_at.Tie as tie
-use Rattle.image.proofs.store_at.Reads as reads
-use Rattle.image.proofs.store_at.Lts as lts
-use Rattle.image.proofs.store.Reads as store-reads
 
 -- src/lib.rt:77:14
 mul-at : tie.Need-mul-at

@@ -1,21 +1,11 @@
 -- HEAD
-use mathlib.Core.Path.{_≡_, refl, sym, ap, ap₂, _∙_}
-use Prim.Native.Nat.{ℕ, suc, _+_, _-_, _*_, _/_, _%_, _≤_, _<_}
-use native.Mathlib.Omega.{arith}
-use lib.ListN.{length}
-use denote.Ref.{now}
+use mathlib.Core.Path.{ap, _∙_}
+use Prim.Native.Nat.{_%_}
 use Rattle.image.specs.View.{put, put2}
-use Rattle.image.specs.Image.{view, recOf}
-use Rattle.image.specs.Stores.{bytesOf, over}
-use Rattle.image.specs.Saves.{words, withData, withText}
-use Rattle.image.proofs.Laws.{copied-out, word-set, copied, stored-at, data-set, text-set, blank-rec}
 -- END
 use borrow.Author.Needs.{needs}
 use Rattle.image.proofs.with_pair.Statement.{statement}
 use Rattle.image.proofs.with_pair.Tie as tie
-use Rattle.image.proofs.with_pair.Reads as reads
-use Rattle.image.proofs.with_pair.Lts as lts
-use Rattle.image.proofs.with_word.Reads as with-word-reads
 
 -- src/lib.rt:41:28
 add-with-word : tie.Need-add-with-word

@@ -1,20 +1,10 @@
 -- HEAD
-use mathlib.Core.Path.{_≡_, refl, sym, ap, ap₂, _∙_}
-use Prim.Native.Nat.{ℕ, suc, _+_, _-_, _*_, _/_, _%_, _≤_, _<_}
 use native.Mathlib.Omega.{arith}
-use lib.ListN.{length}
-use denote.Ref.{now}
-use Rattle.image.specs.View.{put, put2}
-use Rattle.image.specs.Image.{view, recOf}
-use Rattle.image.specs.Stores.{bytesOf, over}
-use Rattle.image.specs.Saves.{words, withData, withText}
-use Rattle.image.proofs.Laws.{copied-out, word-set, copied, stored-at, data-set, text-set, blank-rec}
+use Rattle.image.proofs.Laws.{word-set}
 -- END
 use borrow.Author.Needs.{needs}
 use Rattle.image.proofs.with_word.Statement.{statement}
 use Rattle.image.proofs.with_word.Tie as tie
-use Rattle.image.proofs.with_word.Reads as reads
-use Rattle.image.proofs.with_word.Lts as lts
 
 -- src/lib.rt:30:13
 mul-i : tie.Need-mul-i

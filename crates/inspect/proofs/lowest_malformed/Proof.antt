@@ -1,7 +1,7 @@
 use Prim.Native.Nat.{_+_, _-_}
 use native.Mathlib.Omega.{arith}
 use Rattle.image.specs.Image.{view}
-use Rattle.volume.specs.Files.{partitionOf, isMalformed}
+use Rattle.volume.specs.Files.{isMalformed}
 use Rattle.volume.specs.Answers.{lowestMalformed}
 use Rattle.volume.specs.Steps.{Searching, search-starts-as, searches}
 use Rattle.inspect.proofs.lowest_malformed.Statement.{statement}

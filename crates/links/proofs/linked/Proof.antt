@@ -5,7 +5,6 @@ use native.Mathlib.Omega.{arith}
 use denote.Ref.{now}
 use borrow.Author.Needs.{needs}
 use borrow.Author.Tests.{not-true, not-false}
-use Rattle.volume.specs.Files.{partitionOf}
 use Rattle.inspect.proofs.Laws.{opened-least}
 use Rattle.links.proofs.Laws.{len-few, first-is, next-is, key-high, key-few, key-pointer}
 use Rattle.links.proofs.Walk.{tails-none, tails-are, Linking, Turn, link-starts, link-tail, link-end, link-fails, link-next, next-there, next-more}

@@ -4,7 +4,7 @@ use native.Mathlib.Omega.{arith}
 use lib.Dec.{ltb}
 use Rattle.base.specs.Tests.{pick}
 use Rattle.image.specs.Image.{view}
-use Rattle.volume.specs.Files.{partitionOf, isFile}
+use Rattle.volume.specs.Files.{isFile}
 use Rattle.volume.specs.Answers.{fileAbove}
 use Rattle.volume.specs.Steps.{Searching, search-starts-as, searches, lowest-nothing}
 use Rattle.listing.proofs.file_above.Statement.{statement}

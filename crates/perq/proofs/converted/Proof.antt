@@ -1,7 +1,6 @@
-use mathlib.Core.Path.{subst, sym, _∙_}
+use mathlib.Core.Path.{subst}
 use native.Mathlib.Omega.{arith}
 use Rattle.drive.specs.Fits.{Fits}
-use Rattle.perq.specs.Fits.{OutcomeFits}
 use borrow.Author.Needs.{needs}
 use Rattle.perq.proofs.converted.Statement.{statement}
 use Rattle.perq.proofs.converted.Tie as tie

@@ -1,6 +1,5 @@
-use mathlib.Core.Path.{subst, sym, _∙_}
+use mathlib.Core.Path.{subst}
 use native.Mathlib.Omega.{arith}
-use Rattle.drive.specs.Fits.{Fits}
 use Rattle.perq.specs.Fits.{OutcomeFits}
 use borrow.Author.Needs.{needs}
 use Rattle.perq.proofs.flat_from.Statement.{statement}

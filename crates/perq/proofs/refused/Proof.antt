@@ -1,7 +1,3 @@
-use mathlib.Core.Path.{subst, sym, _∙_}
-use native.Mathlib.Omega.{arith}
-use Rattle.drive.specs.Fits.{Fits}
-use Rattle.perq.specs.Fits.{OutcomeFits}
 use borrow.Author.Needs.{needs}
 use Rattle.perq.proofs.refused.Statement.{statement}
 use Rattle.perq.proofs.refused.Tie as tie

@@ -1,7 +1,6 @@
 use Prim.Native.Nat.{_+_, _-_, _≤_}
 use native.Mathlib.Omega.{arith}
 use Rattle.repair.specs.Mending.{Mending, mend-starts, mend-turn, mend-next, mend-past}
-use Rattle.volume.specs.Files.{partitionOf}
 use Rattle.repair.proofs.mend.Statement.{statement}
 use Rattle.repair.proofs.mend.Tie as tie
 

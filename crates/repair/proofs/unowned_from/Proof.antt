@@ -4,7 +4,7 @@ use Prim.Native.Nat.{suc, _+_, _-_}
 use native.Mathlib.Omega.{arith}
 use borrow.Author.Needs.{needs}
 use Rattle.image.specs.Image.{view}
-use Rattle.volume.specs.Files.{owned, partitionOf}
+use Rattle.volume.specs.Files.{owned}
 use Rattle.base.specs.Tests.{those, headOf}
 use Rattle.blocks.specs.Standing.{Seeking, seek-starts, seek-hit, seek-next, seek-end}
 use Rattle.repair.specs.Mending.{isFree}

@@ -4,7 +4,6 @@ use native.Mathlib.Omega.{arith}
 use native.Mathlib.Numerals.{add-one}
 use borrow.Author.Needs.{needs}
 use Rattle.image.specs.Image.{view}
-use Rattle.volume.specs.Files.{partitionOf}
 use Rattle.verify.proofs.Surveys.{Passed, pass-starts, pass-other, pass-file, pass-faulty, pass-ends, file-short}
 use Rattle.verify.proofs.surveyed.Statement.{statement}
 use Rattle.verify.proofs.surveyed.Tie as tie

@@ -2,7 +2,6 @@ use borrow.Author.Needs.{needs}
 use Prim.Native.Nat.{_-_}
 use native.Mathlib.Omega.{arith}
 use Rattle.image.specs.Image.{view}
-use Rattle.volume.specs.Files.{partitionOf}
 use Rattle.verify.specs.Walks.{walk}
 use Rattle.verify.proofs.Free.{Walking, walk-starts, walk-out, walk-bad, walk-end, walk-on}
 use Rattle.verify.proofs.walk_from.Statement.{statement}

@@ -1,5 +1,5 @@
 -- `batch::table::column` is safe and ends. The loop stops at the width of the column. Assumes nothing.
-use Prim.Native.Nat.{_≤_, _-_}
+use Prim.Native.Nat.{_-_}
 use borrow.Author.Needs.{needs}
 use Rattle.batch.proofs.table.column.Statement.{statement}
 use Rattle.batch.proofs.table.column.Tie as tie

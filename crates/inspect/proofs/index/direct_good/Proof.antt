@@ -1,7 +1,6 @@
 use Prim.Native.Nat.{_-_}
 use Rattle.base.specs.Tests.{all}
 use Rattle.image.specs.Image.{view}
-use Rattle.volume.specs.Files.{partitionOf}
 use Rattle.volume.specs.Steps.{passes, Passed}
 use Rattle.inspect.specs.Form.{dataTest}
 use Rattle.inspect.proofs.index.direct_good.Statement.{statement}

@@ -5,7 +5,6 @@ use native.Mathlib.Omega.{arith}
 use borrow.Author.Tests.{not-true, not-false}
 use Rattle.image.specs.Image.{view}
 use Rattle.volume.specs.Keys.{low}
-use Rattle.volume.specs.Files.{partitionOf}
 use Rattle.volume.specs.Reads.{inside-of}
 use Rattle.volume.specs.Steps.{Indexed, index-starts, index-few-fails, index-enter, index-next, index-to, index-end, index-ptr-fails, index-data-fails}
 use Rattle.inspect.specs.Form.{pointerTest, dataTest, indexGood, named-member}

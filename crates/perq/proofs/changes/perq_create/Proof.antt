@@ -1,6 +1,4 @@
-use mathlib.Core.Path.{_≡_, sym, _∙_}
-use native.Mathlib.Omega.{arith}
-use Rattle.volume.specs.Calls.{create, write, describe, destroy, repair}
+use Rattle.volume.specs.Calls.{create}
 use Rattle.perq.specs.Fits.{made-fits, answered-fits, changed}
 use borrow.Author.Needs.{needs}
 use Rattle.perq.proofs.changes.perq_create.Statement.{statement}

@@ -1,6 +1,6 @@
-use mathlib.Core.Path.{_≡_, sym, _∙_}
+use mathlib.Core.Path.{_∙_}
 use native.Mathlib.Omega.{arith}
-use Rattle.perq.specs.Fits.{checked-fits, nextFile-fits, shown-fits, shownPair-fits, shownPair-image, readFrom-fits, describedAs-fits, extracted-fits, plain-fits}
+use Rattle.perq.specs.Fits.{checked-fits}
 use borrow.Author.Needs.{needs}
 use Rattle.perq.proofs.reads.perq_check.Statement.{statement}
 use Rattle.perq.proofs.reads.perq_check.Tie as tie

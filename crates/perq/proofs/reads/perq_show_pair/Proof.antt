@@ -1,6 +1,5 @@
-use mathlib.Core.Path.{_≡_, sym, _∙_}
-use native.Mathlib.Omega.{arith}
-use Rattle.perq.specs.Fits.{checked-fits, nextFile-fits, shown-fits, shownPair-fits, shownPair-image, readFrom-fits, describedAs-fits, extracted-fits, plain-fits}
+use mathlib.Core.Path.{_∙_}
+use Rattle.perq.specs.Fits.{shownPair-fits, shownPair-image}
 use borrow.Author.Needs.{needs}
 use Rattle.perq.proofs.reads.perq_show_pair.Statement.{statement}
 use Rattle.perq.proofs.reads.perq_show_pair.Tie as tie

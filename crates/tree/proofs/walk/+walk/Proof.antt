@@ -5,7 +5,6 @@ use lib.ListN.{length}
 use borrow.Author.Needs.{needs}
 use borrow.Fn.Kinds.{In}
 use borrow.Fn.PlainCycle.{Measures, is, falls, and}
-use Rattle.volume.specs.Files.{partitionOf}
 use Rattle.directory.specs.Directory.{selected, entries, tree, walked, lay}
 use Rattle.directory.specs.Entries.{met-short, met-is-file, met-what}
 use Rattle.directory.proofs.Laws.{file-inside, file-opened}
