@@ -20,9 +20,7 @@ use Rattle.volume.specs.Plans.{repairPlan}
 use Rattle.frame.specs.Sound.{sound-clean}
 use Rattle.frame.specs.Clean.{of-clean}
 use Rattle.base.specs.declared.Refusal.the-variants.{BadBuffer, Unsound, NothingFree}
-use Rattle.volume.specs.Answers.{partition, lowestMalformed, checked, checkIn, checkClean, tallied}
-use Rattle.volume.specs.Answers as answers
-use Rattle.volume.specs.Calls as calls
+use Rattle.volume.specs.Answers.{partition, lowestMalformed, checked, checkIn, checkClean, tallied, inPartition}
 use Rattle.volume.specs.Calls.{Call, create, write, describe, destroy, repair, Planned, refuse, finish, planned, through, unmarred, repairIn, createIn, writeIn, describeIn, destroyIn}
 use Rattle.volume.specs.declared.Found.{Found}
 use Rattle.volume.specs.declared.Found.the-variants.{At, Nothing}
@@ -54,14 +52,14 @@ module _ {d s e : ℕ} {l : List ℕ} (h : Held d s e l) where
   pub sound-accepted : sound (partitionOf d s e) (view l) ≡ true → Accepted d s l
   unfolding checked checkIn tallied
   sound-accepted ok =
-      ap (λ (x : Part). isDone (answers.inPartition x (λ e. checkIn (partitionOf d s e) v))) (h .good)
+      ap (λ (x : Part). isDone (inPartition Refused x (λ e. checkIn (partitionOf d s e) v))) (h .good)
       ∙ ap (λ (m : Found). isDone (checkClean π v m)) (of-clean π v (sound-clean π v ok)) ∙ ap (λ (t : Bool). isDone (pick t (tallied π v) (Refused Unsound))) ok
 
 pub accepted-sound : (d s : ℕ) (l : List ℕ) → Bytes l → Accepted d s l → Sound d s l
 unfolding checked checkIn
 accepted-sound d s l b h = go (partition d l s) refl h
   where
-    go : (x : Part) → partition d l s ≡ x → isDone (answers.inPartition x (λ e. checkClean (partitionOf d s e) (view l) (lowestMalformed (partitionOf d s e) (view l)))) ≡ true → Sound d s l
+    go : (x : Part) → partition d l s ≡ x → isDone (inPartition Refused x (λ e. checkClean (partitionOf d s e) (view l) (lowestMalformed (partitionOf d s e) (view l)))) ≡ true → Sound d s l
     go (part.Refused y) q k = absurd (true≢false (sym k))
     go (part.Good e) q k = record { end = e; held = record { good = q; bytes = b }; is = on (lowestMalformed π₁ (view l)) k }
       where
@@ -89,7 +87,7 @@ module _ {d s e : ℕ} {l : List ℕ} (h : Held d s e l) where
   through-is : sound (partitionOf d s e) (view l) ≡ true → (fits : Bool) (k : Partition → Planned) → through d l s fits k ≡ pick fits (k (partitionOf d s e)) (refuse BadBuffer)
   unfolding through
   through-is ok fits k =
-      ap (λ (x : Part). calls.inPartition x (λ e. let ρ = partitionOf d s e in pick fits (unmarred (lowestMalformed ρ v₂) (pick (sound ρ v₂) (k ρ) (refuse Unsound))) (refuse BadBuffer))) (h .good)
+      ap (λ (x : Part). inPartition refuse x (λ e. let ρ = partitionOf d s e in pick fits (unmarred (lowestMalformed ρ v₂) (pick (sound ρ v₂) (k ρ) (refuse Unsound))) (refuse BadBuffer))) (h .good)
       ∙ ap₂ (λ (m : Found) (t : Bool). pick fits (unmarred m (pick t (k π₂) (refuse Unsound))) (refuse BadBuffer)) (of-clean π₂ v₂ (sound-clean π₂ v₂ ok)) ok
 
   through-settled : sound (partitionOf d s e) (view l) ≡ true → {f : ℕ} {E : View → Type 0} (fits : Bool) (k : Partition → Planned) → (fits ≡ true → Settled (partitionOf d s e) (view l) f E (k (partitionOf d s e)))
@@ -111,7 +109,7 @@ module _ {d s e : ℕ} {l : List ℕ} (h : Held d s e l) where
   repair-through : Clean (partitionOf d s e) (view l) → planned d l s repair ≡ repairIn (partitionOf d s e) (view l)
   unfolding planned
   repair-through c =
-      ap (λ (x : Part). calls.inPartition x (λ e. let ρ = partitionOf d s e in unmarred (lowestMalformed ρ v₂) (repairIn ρ v₂))) (h .good)
+      ap (λ (x : Part). inPartition refuse x (λ e. let ρ = partitionOf d s e in unmarred (lowestMalformed ρ v₂) (repairIn ρ v₂))) (h .good)
       ∙ ap (λ (m : Found). unmarred m (repairIn π₂ v₂)) (of-clean π₂ v₂ c)
 
   -- every call

@@ -27,10 +27,8 @@ use Rattle.base.specs.declared.Refusal.{Refusal}
 use Rattle.base.specs.declared.Refusal.the-variants.{BadBuffer, Unsound, NothingFree, Full, NoCandidate, BadBlock, Malformed, BadImage, BadPartition}
 use Rattle.volume.specs.Words.{numberFreeAt}
 use Rattle.volume.specs.Keys.{reach}
-use Rattle.volume.specs.Answers.{imageGood, partGood, endOf, partition, lowest, lowestMalformed, checked, checkIn, checkClean, tallied}
-use Rattle.volume.specs.Answers as answers
+use Rattle.volume.specs.Answers.{imageGood, partGood, endOf, partition, lowest, lowestMalformed, checked, checkIn, checkClean, tallied, inPartition}
 use Rattle.volume.specs.Calls.{Call, create, write, describe, destroy, repair, Planned, refuse, finish, planned, through, unmarred, createIn, appendIn, writeIn, describeIn, destroyIn, repairIn, room}
-use Rattle.volume.specs.Calls as calls
 use Rattle.volume.specs.declared.Found.{Found}
 use Rattle.volume.specs.declared.Found.the-variants.{At, Nothing}
 use Rattle.volume.specs.declared.Part.{Part}
@@ -77,7 +75,7 @@ unmarred-comes : (m : Found) (x : Planned) → Comes x → Comes (unmarred m x)
 unmarred-comes (At f) x h = refuses (Malformed f)
 unmarred-comes Nothing x h = h
 
-part-comes : (x : Part) (k : ℕ → Planned) → ((e : ℕ) → Comes (k e)) → Comes (calls.inPartition x k)
+part-comes : (x : Part) (k : ℕ → Planned) → ((e : ℕ) → Comes (k e)) → Comes (inPartition refuse x k)
 part-comes (part.Good e) k h = h e
 part-comes (part.Refused y) k h = refuses y
 
@@ -183,7 +181,7 @@ mendable d s l b h = on (partition d l s) refl h
     formed e g (At f) q k = absurd (true≢false (sym k))
     formed e g Nothing q k = record { end = e; held = record { good = g; bytes = b }; clean = unmarred-clean (partitionOf d s e) (view l) q; spare = last e (eqb (length (unowned (partitionOf d s e) (view l))) 0) refl k }
 
-    on : (x : Part) → partition d l s ≡ x → isDone (calls.inPartition x (λ e. unmarred (lowestMalformed (partitionOf d s e) (view l)) (repairIn (partitionOf d s e) (view l))) .outcome) ≡ true → Mendable d s l
+    on : (x : Part) → partition d l s ≡ x → isDone (inPartition refuse x (λ e. unmarred (lowestMalformed (partitionOf d s e) (view l)) (repairIn (partitionOf d s e) (view l))) .outcome) ≡ true → Mendable d s l
     on (part.Good e) g k = formed e g (lowestMalformed (partitionOf d s e) (view l)) refl k
     on (part.Refused y) g k = absurd (true≢false (sym k))
 
@@ -256,7 +254,7 @@ pub free-and-needed : (d s : ℕ) (l : List ℕ) → Image l → Accepted d s l 
 unfolding checked checkIn tallied
 free-and-needed d s l b a = record {
   files = count (y .end - s) (λ i. isFile π (view l) (blockAt π i));
-  answer = ap (λ (x : Part). answers.inPartition x (λ e. checkIn (partitionOf d s e) (view l))) (y .held .good)
+  answer = ap (λ (x : Part). inPartition Refused x (λ e. checkIn (partitionOf d s e) (view l))) (y .held .good)
       ∙ ap (checkClean π (view l)) (of-clean π (view l) (sound-clean π (view l) (y .is))) ∙ ap (λ (t : Bool). pick t (tallied π (view l)) (Refused Unsound)) (y .is)
       ∙ ap₂ (λ (x z : ℕ). Done (count (y .end - s) (λ i. isFile π (view l) (blockAt π i))) x z) (owned-needed π (view l) ∙ sym same) (sym (free-unowned π (view l) low (y .is)));
   total = ap₂ (λ (x z : ℕ). x + z) same refl ∙ (let q = counts.free-and-needed π (view l) low (y .is) in let z : needed π (view l) + pair (view l) s numberFreeAt ≡ y .end - s = omega arith in z) ∙ ap (λ (e : ℕ). e - s) (sym (end-is (y .held)));

@@ -17,7 +17,6 @@ use Rattle.volume.specs.declared.Partition.{Partition}
 use Rattle.volume.specs.Answers.{lowest, partition, inPartition}
 use Rattle.volume.specs.declared.Found.{Found}
 use Rattle.volume.specs.declared.Found.the-variants.{At, Nothing}
-use Rattle.volume.specs.declared.Part.{Part}
 use Rattle.volume.specs.declared.Part.the-variants as part
 use Rattle.volume.specs.declared.Outcome.{Outcome}
 use Rattle.volume.specs.declared.Outcome.the-variants as call
@@ -226,7 +225,7 @@ unfoldable pub lookIn : Partition → List ℕ → List ℕ → List ℕ → Out
 lookIn π l rule path = pick (isRule rule) (lookRoot π l rule path (rootOf π l)) (call.Refused BadBuffer)
 
 unfoldable pub lookUp : ℕ → List ℕ → ℕ → List ℕ → List ℕ → Outcome
-lookUp d l s rule path = inPartition (partition d l s) (λ e. lookIn (partitionOf d s e) l rule path)
+lookUp d l s rule path = inPartition call.Refused (partition d l s) (λ e. lookIn (partitionOf d s e) l rule path)
 
 -- ---- the call tree: 1, 2, 3, 6, 11; what it comes to, and the bytes that it lays over the caller's rows, none under a refusal
 
@@ -253,9 +252,5 @@ treeRoot π l rule n Nothing = refusedTree NoCandidate
 unfoldable pub treeIn : Partition → List ℕ → List ℕ → ℕ → Treed
 treeIn π l rule n = pick (both (isRule rule) (eqb (n % 32) 0)) (treeRoot π l rule n (rootOf π l)) (refusedTree BadBuffer)
 
-abbrev pub treePart : ℕ → List ℕ → ℕ → List ℕ → ℕ → Part → Treed
-treePart d l s rule n (part.Good e) = treeIn (partitionOf d s e) l rule n
-treePart d l s rule n (part.Refused y) = refusedTree y
-
 unfoldable pub treed : ℕ → List ℕ → ℕ → List ℕ → ℕ → Treed
-treed d l s rule n = treePart d l s rule n (partition d l s)
+treed d l s rule n = inPartition refusedTree (partition d l s) (λ e. treeIn (partitionOf d s e) l rule n)

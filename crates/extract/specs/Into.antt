@@ -8,17 +8,12 @@ use Rattle.image.specs.Image.{view}
 use Rattle.volume.specs.Words.{dataOffset}
 use Rattle.volume.specs.Files.{partitionOf, name}
 use Rattle.volume.specs.declared.Partition.{Partition}
-use Rattle.volume.specs.Answers.{partition, blockBytes, extractIn, extractInto}
-use Rattle.volume.specs.declared.Part.{Part}
-use Rattle.volume.specs.declared.Part.the-variants.{Good, Refused}
+use Rattle.volume.specs.Answers.{partition, inPartition, blockBytes, extractIn, extractInto}
 
 -- the buffer after extract
-abbrev pub intoPart : ℕ → List ℕ → ℕ → ℕ → List ℕ → Part → List ℕ
-intoPart d l s f buffer (Good e) = let π = partitionOf d s e in extractInto π l f buffer (extractIn π (view l) f (length buffer))
-intoPart d l s f buffer (Refused y) = buffer
-
 unfoldable pub extractedInto : ℕ → List ℕ → ℕ → ℕ → List ℕ → List ℕ
-extractedInto d l s f buffer = intoPart d l s f buffer (partition d l s)
+extractedInto d l s f buffer =
+    inPartition (λ y. buffer) (partition d l s) (λ e. let π = partitionOf d s e in extractInto π l f buffer (extractIn π (view l) f (length buffer)))
 
 -- the 512 bytes of block b
 abbrev pub dataOf : List ℕ → ℕ → List ℕ

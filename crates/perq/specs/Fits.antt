@@ -2,14 +2,14 @@
 use mathlib.Core.Path.{_≡_, refl, sym, ap₂, _∙_, subst}
 use mathlib.Core.Bool.{Bool, true, false, not}
 use mathlib.Core.List.{List, [], _∷_}
-use Prim.Native.Nat.{ℕ, zero, suc, _+_, _-_, _*_, _/_, _<_, _≤_}
+use Prim.Native.Nat.{ℕ, zero, suc, _+_, _-_, _*_, _<_, _≤_}
 use native.Mathlib.Omega.{arith}
 use lib.Dec.{leb, ltb, eqb}
 use lib.ListN.{length, take}
 use borrow.Author.Tests.{ltb-true, leb-true, leb-false}
 use Rattle.base.specs.Tests.{pick, count}
 use Rattle.base.specs.Refusals.{culprit}
-use Rattle.base.specs.declared.Refusal.the-variants.{BadImage, BadPartition, Malformed, NoCandidate}
+use Rattle.base.specs.declared.Refusal.the-variants.{Malformed, NoCandidate}
 use Rattle.image.specs.View.{View}
 use Rattle.image.specs.Image.{view}
 use Rattle.image.specs.Saves.{words}
@@ -18,11 +18,10 @@ use Rattle.volume.specs.declared.Partition.{Partition}
 use Rattle.volume.specs.Keys.{reach}
 use Rattle.volume.specs.KeyLaws.{first-data}
 use Rattle.volume.specs.Index.{wf-of, member}
-use Rattle.volume.specs.Reads.{lies, inside-of, candidate-in}
+use Rattle.volume.specs.Reads.{in-part, lies, inside-of, candidate-in}
 use Rattle.volume.specs.Steps.{lowest-at}
-use Rattle.volume.specs.Answers.{imageGood, partGood, endOf, partition, inPartition, lowest, lowestMalformed, fileAbove, foundFile, nextFile, tallied, checkClean, checkIn, checked, ofFile, showIn, shown, eitherOf, shownPair, readFrom, plain, describedAs, extractIn, extracted}
-use Rattle.volume.specs.Calls.{Planned, unmarred, through, createIn, appendIn, writeIn, describeIn, destroyIn, repairIn, planned, Answered, Call, create, write, describe, destroy, repair}
-use Rattle.volume.specs.Calls as calls
+use Rattle.volume.specs.Answers.{partition, inPartition, lowest, lowestMalformed, fileAbove, foundFile, nextFile, tallied, checkClean, checkIn, checked, ofFile, showIn, shown, eitherOf, shownPair, readFrom, plain, describedAs, extractIn, extracted}
+use Rattle.volume.specs.Calls.{Planned, refuse, unmarred, through, createIn, appendIn, writeIn, describeIn, destroyIn, repairIn, planned, Answered, Call, create, write, describe, destroy, repair}
 use Rattle.volume.specs.Writes.{needs}
 use Rattle.volume.specs.declared.Found.{Found}
 use Rattle.volume.specs.declared.Found.the-variants.{At, Nothing}
@@ -67,15 +66,8 @@ count-most (suc k) P = go (P k) (count-most k P)
     go false h = omega arith
 
 -- 1 and 2 name no block
-pub part-fits : (d : ℕ) (l : List ℕ) (s : ℕ) (k : ℕ → Outcome) → ((e : ℕ) → partition d l s ≡ part.Good e → OutcomeFits (k e)) → OutcomeFits (inPartition (partition d l s) k)
-unfolding partition
-part-fits d l s k h = go (imageGood d (length l)) (partGood d (length l / 528) (view l) s) h
-  where
-    go : (t u : Bool) → ((e : ℕ) → pick t (pick u (part.Good (endOf d (view l) s)) (part.Refused BadPartition)) (part.Refused BadImage) ≡ part.Good e → OutcomeFits (k e))
-        → OutcomeFits (inPartition (pick t (pick u (part.Good (endOf d (view l) s)) (part.Refused BadPartition)) (part.Refused BadImage)) k)
-    go true true h = h _ refl
-    go true false h = omega arith
-    go false u h = omega arith
+pub part-fits : (d : ℕ) (l : List ℕ) (s : ℕ) (k : ℕ → Outcome) → ((e : ℕ) → partition d l s ≡ part.Good e → OutcomeFits (k e)) → OutcomeFits (inPartition Refused (partition d l s) k)
+part-fits = in-part OutcomeFits Refused (omega arith) (omega arith)
 
 module _ (π : Partition) (v : View) (few : π .e < 69552) where
   file-fits : (f : ℕ) (k : Outcome) → (candidate π v f ≡ true → wellFormed π v f ≡ true → OutcomeFits k) → OutcomeFits (ofFile π v f k)
@@ -180,15 +172,8 @@ pickp-fits false x y h k = k refl
 done-fits : (0 < 4294967296) × (0 < 4294967296) × (0 < 4294967296)
 done-fits = (omega arith, omega arith, omega arith)
 
-planned-part : (d : ℕ) (l : List ℕ) (s : ℕ) (k : ℕ → Planned) → ((e : ℕ) → partition d l s ≡ part.Good e → OutcomeFits (k e .outcome)) → OutcomeFits (calls.inPartition (partition d l s) k .outcome)
-unfolding partition
-planned-part d l s k h = go (imageGood d (length l)) (partGood d (length l / 528) (view l) s) h
-  where
-    go : (t u : Bool) → ((e : ℕ) → pick t (pick u (part.Good (endOf d (view l) s)) (part.Refused BadPartition)) (part.Refused BadImage) ≡ part.Good e → OutcomeFits (k e .outcome))
-        → OutcomeFits (calls.inPartition (pick t (pick u (part.Good (endOf d (view l) s)) (part.Refused BadPartition)) (part.Refused BadImage)) k .outcome)
-    go true true h = h _ refl
-    go true false h = omega arith
-    go false u h = omega arith
+planned-part : (d : ℕ) (l : List ℕ) (s : ℕ) (k : ℕ → Planned) → ((e : ℕ) → partition d l s ≡ part.Good e → OutcomeFits (k e .outcome)) → OutcomeFits (inPartition refuse (partition d l s) k .outcome)
+planned-part = in-part (λ x. OutcomeFits (x .outcome)) refuse (omega arith) (omega arith)
 
 planned-clean : (π : Partition) (v : View) (x : Planned) → π .e < 69552 → π .s ≤ π .e → OutcomeFits (x .outcome) → OutcomeFits (unmarred (lowestMalformed π v) x .outcome)
 unfolding lowestMalformed

@@ -10,13 +10,10 @@ use Rattle.base.specs.Tests.{pick, both}
 use Rattle.base.specs.declared.Refusal.the-variants.{BadBuffer}
 use Rattle.volume.specs.Files.{partitionOf}
 use Rattle.volume.specs.declared.Partition.{Partition}
-use Rattle.volume.specs.Reads.{lies}
-use Rattle.volume.specs.Answers.{partition, inPartition}
+use Rattle.volume.specs.Reads.{in-part, lies}
 use Rattle.volume.specs.declared.Found.{Found}
 use Rattle.volume.specs.declared.Found.the-variants.{At, Nothing}
-use Rattle.volume.specs.declared.Part.{Part}
-use Rattle.volume.specs.declared.Part.the-variants as part
-use Rattle.directory.specs.Directory.{selected, isRule, rootOf, lookFrom, lookedAs, lookRoot, lookIn, lookUp, tree, walked, fitting, mostRows, walkedAs, refusedTree, treeRoot, treeIn, treePart, treed}
+use Rattle.directory.specs.Directory.{selected, isRule, rootOf, lookFrom, lookedAs, lookRoot, lookIn, lookUp, tree, walked, fitting, mostRows, walkedAs, refusedTree, treeRoot, treeIn, treed}
 use Rattle.directory.specs.Entries.{file-at}
 use Rattle.directory.specs.Paths.{LookedIn, lookFrom-in}
 use Rattle.directory.specs.declared.Looked.{Looked}
@@ -72,11 +69,6 @@ tree-fits π l rule n few = ruled (both (isRule rule) (eqb (n % 32) 0))
     ruled true = go (rootOf π l) refl
     ruled false = omega arith
 
--- the tree's answer is that of a call in a partition
-tree-part : (d : ℕ) (l : List ℕ) (s : ℕ) (rule : List ℕ) (n : ℕ) (x : Part) → treePart d l s rule n x .outcome ≡ inPartition x (λ e. treeIn (partitionOf d s e) l rule n .outcome)
-tree-part d l s rule n (part.Good e) = refl
-tree-part d l s rule n (part.Refused y) = refl
-
 pub treed-fits : (d : ℕ) (l : List ℕ) (s : ℕ) (rule : List ℕ) (n : ℕ) → OutcomeFits (treed d l s rule n .outcome)
 unfolding treed
-treed-fits d l s rule n = rw (tree-part d l s rule n (partition d l s)) (part-fits d l s _ (λ e g. tree-fits (partitionOf d s e) l rule n (lies d l s e g .few)))
+treed-fits d l s rule n = in-part (λ x. OutcomeFits (x .outcome)) refusedTree (omega arith) (omega arith) d l s _ (λ e g. tree-fits (partitionOf d s e) l rule n (lies d l s e g .few))

@@ -11,14 +11,14 @@ use Rattle.base.specs.declared.Refusal.{Refusal}
 use Rattle.base.specs.declared.Refusal.the-variants.{BadBuffer}
 use Rattle.volume.specs.Files.{partitionOf}
 use Rattle.volume.specs.declared.Partition.{Partition}
-use Rattle.volume.specs.Answers.{partition}
+use Rattle.volume.specs.Answers.{partition, inPartition}
 use Rattle.volume.specs.declared.Found.{Found}
 use Rattle.volume.specs.declared.Found.the-variants.{At, Nothing}
 use Rattle.volume.specs.declared.Part.{Part}
 use Rattle.volume.specs.declared.Part.the-variants as part
 use Rattle.volume.specs.declared.Outcome.{Outcome}
 use Rattle.volume.specs.declared.Outcome.the-variants.{Done, Absent, Refused}
-use Rattle.directory.specs.Directory.{selected, isRule, rootOf, Item, tree, walked, fitting, lay, Treed, refusedTree, mostRows, walkedAs, treeRoot, treeIn, treePart, treed}
+use Rattle.directory.specs.Directory.{selected, isRule, rootOf, Item, tree, walked, fitting, lay, Treed, refusedTree, mostRows, walkedAs, treeRoot, treeIn, treed}
 use Rattle.directory.specs.Entries.{file-at}
 use Rattle.directory.specs.declared.Walk.{Walk}
 use Rattle.directory.specs.declared.Walk.the-variants.{Going, Stopped, Deep}
@@ -60,7 +60,7 @@ treed-laid d l s rule n = go (partition d l s)
     ruled π true = root-laid π l rule n
     ruled π false = refl
 
-    go : (x : Part) → TreeLaid (treePart d l s rule n x)
+    go : (x : Part) → TreeLaid (inPartition refusedTree x (λ e. treeIn (partitionOf d s e) l rule n))
     go (part.Good e) = ruled (partitionOf d s e) (both (isRule rule) (eqb (n % 32) 0))
     go (part.Refused y) = refl
 

@@ -6,6 +6,7 @@ use Prim.Native.Nat.{ℕ, zero, suc, _+_, _-_, _*_, _/_, _%_}
 use lib.Dec.{leb, ltb, eqb}
 use lib.ListN.{length, take, drop, replicate}
 use Rattle.base.specs.Tests.{pick, every, count}
+use Rattle.base.specs.declared.Refusal.{Refusal}
 use Rattle.base.specs.declared.Refusal.the-variants.{BadImage, BadPartition, BadBuffer, Malformed, Unsound, NoCandidate, BadBlock}
 use Rattle.drive.specs.Address.{blocks, ldaBlock}
 use Rattle.image.specs.View.{View, pair}
@@ -51,10 +52,10 @@ partition d l s =
     (pick (partGood d (length l / 528) (view l) s) (part.Good (endOf d (view l) s)) (part.Refused BadPartition))
     (part.Refused BadImage)
 
--- what a call comes to in a good partition, or the partition's refusal
-abbrev pub inPartition : Part → (ℕ → Outcome) → Outcome
-inPartition (part.Good e) k = k e
-inPartition (part.Refused y) k = Refused y
+-- what a call comes to in a good partition, by its end, or what it comes to by the partition's refusal
+abbrev pub inPartition : {A : Type 0} → (Refusal → A) → Part → (ℕ → A) → A
+inPartition otherwise (part.Good e) k = k e
+inPartition otherwise (part.Refused y) k = otherwise y
 
 -- ---- searches
 
@@ -90,7 +91,7 @@ unfoldable pub checkIn : Partition → View → Outcome
 checkIn π v = checkClean π v (lowestMalformed π v)
 
 unfoldable pub checked : ℕ → List ℕ → ℕ → Outcome
-checked d l s = inPartition (partition d l s) (λ e. checkIn (partitionOf d s e) (view l))
+checked d l s = inPartition Refused (partition d l s) (λ e. checkIn (partitionOf d s e) (view l))
 
 -- ---- next file: 1, 2; the file
 
@@ -99,7 +100,7 @@ foundFile (At f) = Done f 0 0
 foundFile Nothing = Absent
 
 unfoldable pub nextFile : ℕ → List ℕ → ℕ → ℕ → Outcome
-nextFile d l s b = inPartition (partition d l s) (λ e. foundFile (fileAbove (partitionOf d s e) (view l) b))
+nextFile d l s b = inPartition Refused (partition d l s) (λ e. foundFile (fileAbove (partitionOf d s e) (view l) b))
 
 -- ---- show: 1, 2, 6, 4, 7; where the block's 512 bytes start
 
@@ -112,7 +113,7 @@ showIn π v f r =
     ofFile π v f (pick (ltb r reach) (pick (ltb r (len v f)) (Done (dataOffset (name π v f r)) 512 0) Absent) (Refused BadBlock))
 
 unfoldable pub shown : ℕ → List ℕ → ℕ → ℕ → ℕ → Outcome
-shown d l s f r = inPartition (partition d l s) (λ e. showIn (partitionOf d s e) (view l) f r)
+shown d l s f r = inPartition Refused (partition d l s) (λ e. showIn (partitionOf d s e) (view l) f r)
 
 -- the part of the image: 512 bytes, or none
 abbrev pub partOf : List ℕ → Outcome → List ℕ
@@ -137,7 +138,7 @@ partOfPair original repaired a = pick (eqb (a .image) 1) (partOf repaired (a .ou
 
 -- where the block stands, for a buffer of n bytes
 unfoldable pub readFrom : ℕ → List ℕ → ℕ → ℕ → ℕ → ℕ → Outcome
-readFrom d l s f r n = inPartition (partition d l s) (λ e. pick (eqb n 512) (showIn (partitionOf d s e) (view l) f r) (Refused BadBuffer))
+readFrom d l s f r n = inPartition Refused (partition d l s) (λ e. pick (eqb n 512) (showIn (partitionOf d s e) (view l) f r) (Refused BadBuffer))
 
 -- an answer without its values
 abbrev pub plain : Outcome → Outcome
@@ -154,7 +155,7 @@ readInto l buffer (Refused y) = buffer
 
 unfoldable pub describedAs : ℕ → List ℕ → ℕ → ℕ → ℕ → Outcome
 describedAs d l s f n =
-    inPartition (partition d l s) (λ e. pick (eqb n 104) (ofFile (partitionOf d s e) (view l) f (Done 0 0 0)) (Refused BadBuffer))
+    inPartition Refused (partition d l s) (λ e. pick (eqb n 104) (ofFile (partitionOf d s e) (view l) f (Done 0 0 0)) (Refused BadBuffer))
 
 abbrev pub describedInto : List ℕ → ℕ → List ℕ → Outcome → List ℕ
 describedInto l f buffer (Done a b c) = take 104 (drop (dataOffset f) l)
@@ -172,7 +173,7 @@ unfoldable pub extractIn : Partition → View → ℕ → ℕ → Outcome
 extractIn π v f n = ofFile π v f (pick (eqb n (512 * len v f)) (Done (len v f) 0 0) (Refused BadBuffer))
 
 unfoldable pub extracted : ℕ → List ℕ → ℕ → ℕ → ℕ → Outcome
-extracted d l s f n = inPartition (partition d l s) (λ e. extractIn (partitionOf d s e) (view l) f n)
+extracted d l s f n = inPartition Refused (partition d l s) (λ e. extractIn (partitionOf d s e) (view l) f n)
 
 abbrev pub extractInto : Partition → List ℕ → ℕ → List ℕ → Outcome → List ℕ
 extractInto π l f buffer (Done k b c) = blockBytes π l f 0 k

@@ -16,13 +16,11 @@ use Rattle.image.specs.Saves.{words}
 use Rattle.volume.specs.Keys.{reach}
 use Rattle.volume.specs.Files.{partitionOf, candidate, len, sound, free, freeHead, unowned}
 use Rattle.volume.specs.declared.Partition.{Partition}
-use Rattle.volume.specs.Answers.{partition, lowestMalformed}
+use Rattle.volume.specs.Answers.{partition, inPartition, lowestMalformed}
 use Rattle.volume.specs.Plans.{Plan, stores, createPlan, describePlan, destroyPlan, repairPlan}
 use Rattle.volume.specs.Writes.{needs, writePlan, replacePlan}
 use Rattle.volume.specs.declared.Found.{Found}
 use Rattle.volume.specs.declared.Found.the-variants.{At, Nothing}
-use Rattle.volume.specs.declared.Part.{Part}
-use Rattle.volume.specs.declared.Part.the-variants as part
 use Rattle.volume.specs.declared.Outcome.{Outcome}
 use Rattle.volume.specs.declared.Outcome.the-variants.{Done, Refused}
 use Rattle.volume.specs.declared.Answer.{Answer}
@@ -53,15 +51,10 @@ abbrev pub unmarred : Found → Planned → Planned
 unmarred (At f) k = refuse (Malformed f)
 unmarred Nothing k = k
 
--- 1, 2, and then k in the partition
-abbrev pub inPartition : Part → (ℕ → Planned) → Planned
-inPartition (part.Good e) k = k e
-inPartition (part.Refused y) k = refuse y
-
 -- 1, 2, 3 where the buffer does not fit, 4, 5, and then k in the sound partition
 unfoldable pub through : ℕ → List ℕ → ℕ → Bool → (Partition → Planned) → Planned
 through d l s fits k =
-    inPartition (partition d l s) (λ e. let π = partitionOf d s e in
+    inPartition refuse (partition d l s) (λ e. let π = partitionOf d s e in
     pick fits (unmarred (lowestMalformed π (view l)) (pick (sound π (view l)) (k π) (refuse Unsound))) (refuse BadBuffer))
 
 -- ---- refusals 6 to 8 and the plans, in a sound partition
@@ -114,7 +107,7 @@ planned d l s (write f r block) = through d l s (eqb (length block) 512) (λ π.
 planned d l s (describe f text) = through d l s (eqb (length text) 104) (λ π. describeIn π (view l) f (words text))
 planned d l s (destroy f) = through d l s true (λ π. destroyIn π (view l) f)
 planned d l s repair =
-    inPartition (partition d l s) (λ e. let π = partitionOf d s e in unmarred (lowestMalformed π (view l)) (repairIn π (view l)))
+    inPartition refuse (partition d l s) (λ e. let π = partitionOf d s e in unmarred (lowestMalformed π (view l)) (repairIn π (view l)))
 
 -- ---- under a limit
 

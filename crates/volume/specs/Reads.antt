@@ -15,8 +15,10 @@ use Rattle.base.specs.Laws.{every-at, both-left, both-right}
 use Rattle.volume.specs.Files.{partitionOf, isLda, address, inside, candidate}
 use Rattle.volume.specs.declared.Partition.{Partition}
 use Rattle.drive.specs.Laws.{blocks-few}
-use Rattle.volume.specs.Answers.{imageGood, partGood, endOf, partition}
-use Rattle.volume.specs.declared.Part.the-variants.{Good}
+use Rattle.volume.specs.Answers.{imageGood, partGood, endOf, partition, inPartition}
+use Rattle.volume.specs.declared.Part.the-variants.{Good, Refused}
+use Rattle.base.specs.declared.Refusal.{Refusal}
+use Rattle.base.specs.declared.Refusal.the-variants.{BadImage, BadPartition}
 
 pub inside-of : (π : Partition) (b : ℕ) → inside π b ≡ true → (π .s < b) × (b ≤ π .e)
 unfolding inside
@@ -65,6 +67,18 @@ lies d l s e h = go (imageGood d (length l)) refl (partGood d (length l / 528) (
         }
     go true i false p = let q = rw (i, p, partition) at h in let z : _≡_ {A = ℕ} 0 1 = cc in absurd (omega arith)
     go false i u p = let q = rw (i, partition) at h in let z : _≡_ {A = ℕ} 0 1 = cc in absurd (omega arith)
+
+-- what holds of what comes in a good partition, and of what comes by 1 and by 2, holds of the call
+pub in-part : {A : Type 0} (P : A → Type 0) (otherwise : Refusal → A) → P (otherwise BadImage) → P (otherwise BadPartition) → (d : ℕ) (l : List ℕ) (s : ℕ) (k : ℕ → A)
+    → ((e : ℕ) → partition d l s ≡ Good e → P (k e)) → P (inPartition otherwise (partition d l s) k)
+unfolding partition
+in-part P otherwise one two d l s k h = go (imageGood d (length l)) (partGood d (length l / 528) (view l) s) h
+  where
+    go : (t u : Bool) → ((e : ℕ) → pick t (pick u (Good (endOf d (view l) s)) (Refused BadPartition)) (Refused BadImage) ≡ Good e → P (k e))
+        → P (inPartition otherwise (pick t (pick u (Good (endOf d (view l) s)) (Refused BadPartition)) (Refused BadImage)) k)
+    go true true h = h _ refl
+    go true false h = two
+    go false u h = one
 
 pub part-start : (d n : ℕ) (v : View) (s : ℕ) → partGood d n v s ≡ true → s < n
 unfolding partGood

@@ -17,7 +17,7 @@ use Rattle.drive.specs.declared.Converted.{Converted}
 use Rattle.drive.specs.declared.Converted.the-variants as convert
 use Rattle.image.specs.View.{View, Rec, after, places, put, put2, blank}
 use Rattle.image.specs.Saves.{withData, withText, words}
-use Rattle.volume.specs.Words.{partitionStartAt, partitionEndAt}
+use Rattle.volume.specs.Words.{partitionStartAt, partitionEndAt, slotAt}
 use Rattle.volume.specs.Search.{seek, down}
 use Rattle.volume.specs.Keys.{keyOf, number, up, slot, child, first, low, span}
 use Rattle.volume.specs.Files.{partitionOf, isLda, address, inside, within, candidate, len, spotIn, presentIn, spot, present, entry, least, size, tally, named, indexed, gapless, wellFormed, isFile, isMalformed, key, owned, files, unowned, above, below, link, linked, chain, free, chained, freeSound, sound}
@@ -48,9 +48,13 @@ outcomeOf (Refused y) = 2 ∷ refusals.number y ∷ []
 abbrev pub rowOf : Planned → List ℕ
 rowOf p = outcomeOf (p .outcome) ++ (places (p .list) ++ p .deciding)
 
--- the pointer block that names block r, as 4 for -4, and the entry's place in it
+-- the relative number of the pointer block that names block r, and the word of the entry
 abbrev pub pointerOf : ℕ → List ℕ
-pointerOf r = (292 - up (292 + r)) ∷ ((slot (292 + r) - 8) / 2) ∷ []
+pointerOf r = number (up (292 + r)) ∷ slot (292 + r) ∷ []
+
+-- the word of the relative number -n
+abbrev pub minus : ℕ → ℕ
+minus n = 65536 - n
 
 -- drive 0, partition 1..7
 abbrev pub seven : Partition
@@ -123,9 +127,9 @@ paper =
     ∷ (57775 ∷ [])
     ∷ (10 ∷ [])
     -- M9 to M11: pointer blocks -4, -5, -35 and their entries
-    ∷ (4 ∷ 127 ∷ [])
-    ∷ (5 ∷ 0 ∷ [])
-    ∷ (35 ∷ 127 ∷ [])
+    ∷ (minus 4 ∷ slotAt 127 ∷ [])
+    ∷ (minus 5 ∷ slotAt 0 ∷ [])
+    ∷ (minus 35 ∷ slotAt 127 ∷ [])
     -- M12: fresh; create gives 2; append r = 0, r = 1; each with its stores and the deciding one's place
     ∷ (2 ∷ 3 ∷ 4 ∷ 5 ∷ 6 ∷ 7 ∷ [])
     ∷ (0 ∷ 2 ∷ 0 ∷ 0 ∷ 2 ∷ 3 ∷ 1 ∷ 0 ∷ [])
