@@ -30,7 +30,7 @@ use Rattle.crash.specs.FreeBlocks.{first-in, spot-unique, spot≢fib}
 use Rattle.crash.specs.Fresh.{fresh-nil, fresh-kind, fresh-cand, fresh-len, fresh-wf}
 use Rattle.crash.specs.Create.{create-good}
 use Rattle.crash.specs.OneBlock.{One, one-shape, describe-one, replace-one}
-use Rattle.crash.specs.Destroy.{no, destroy-good}
+use Rattle.crash.specs.Destroy.{no, destroy-good, D as destroyedView}
 
 module _ (π : Partition) (v w : View) where
   -- f is a new file without blocks
