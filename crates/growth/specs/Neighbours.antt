@@ -2,22 +2,22 @@
 use mathlib.Core.Path.{_≡_, refl, sym, ap, _∙_}
 use mathlib.Core.Logic.{_⊎_, inl, inr, _≢_}
 use mathlib.Core.Bool.{Bool, true, false, true≢false}
-use Prim.Native.Nat.{ℕ, zero, suc, _+_, _-_, _/_, _≤_, _<_}
+use Prim.Native.Nat.{ℕ, zero, suc, _+_, _-_, _≤_, _<_}
 use native.Mathlib.Omega.{arith}
 use lib.Dec.{ltb}
 use borrow.Author.Tests.{ltb-true, ltb-false}
 use Rattle.image.specs.View.{View}
 use Rattle.volume.specs.Search.{seek, down, Least, Greatest, seek-least, down-greatest}
 use Rattle.volume.specs.Keys.{home, low, span}
-use Rattle.volume.specs.KeyLaws.{low-pos, span-end, first-pointer}
+use Rattle.volume.specs.KeyLaws.{low-pos, span-end}
 use Rattle.volume.specs.Files.{len, present, above, below, least}
 use Rattle.volume.specs.declared.Partition.{Partition}
-use Rattle.volume.specs.Index.{present-low, present-high, present-pos, wf-of}
+use Rattle.volume.specs.Index.{present-low, present-high, wf-of}
 use Rattle.volume.specs.Order.{Next, Prev, next-one, prev-one, above-is, below-is, least-is, least-present}
 use Rattle.volume.specs.Writes.{over, needs, isNew, present′, above′, below′, least′}
-use Rattle.growth.specs.Ready.{Ready}
-use Rattle.growth.specs.Path.{over-zero, over-near, placed, needs-few, new-absent, new-not-home}
-use Rattle.growth.specs.Afterwards.{present-old, present-split, asked′, len-short, range′, home-there}
+use Rattle.growth.specs.Ready.{Behind}
+use Rattle.growth.specs.Path.{over-zero, over-least, placed, needs-few, new-absent}
+use Rattle.growth.specs.Afterwards.{present-old, present-not, len-short, range′, home-there}
 
 -- ---- a search over all numbers that may pass
 
@@ -49,7 +49,7 @@ module _ (P : ℕ → Bool) (a e : ℕ) (pos : 0 < a) (inn : (i : ℕ) → P i �
       at i l m true q = out i (λ p. omega (arith, ltb-true i a q, inn i p .0))
       at i l m false q = let b = ltb-false i a q in s .none i b (omega arith) m
 
-module _ (π : Partition) (v : View) (f r : ℕ) (ok : Ready π v f r) where
+module _ (π : Partition) (v : View) (f r : ℕ) (ok : Behind π v f r) where
   abbrev P : ℕ → Bool
   P = present′ π v f r
 
@@ -93,41 +93,30 @@ module _ (π : Partition) (v : View) (f r : ℕ) (ok : Ready π v f r) where
       go (suc zero) l q = inr (omega (arith, needs-few π v f r ok), q)
       go (suc (suc i)) l q = absurd (omega (arith, needs-few π v f r ok))
 
-  -- what was absent and is neither of them is absent
-  absent′ : (i : ℕ) → present π v f i ≡ false → i ≢ over r 0 → (needs π v f r ≡ 2 → i ≢ over r 1) → present′ π v f r i ≡ false
-  absent′ i h a b = go (P i) refl
+  -- what is neither of them is old
+  pub new-not : (k : ℕ) → k ≢ over r 0 → (needs π v f r ≡ 2 → k ≢ over r 1) → isNew π v f r k ≡ false
+  new-not k a b = go (isNew π v f r k) refl
     where
-      on : (isNew π v f r i ≡ true) ⊎ (present π v f i ≡ true) → ⊥
-      on (inr x) = true≢false (sym x ∙ h)
-      on (inl x) = no (new-cases i x)
-        where
-          no : (i ≡ over r 0) ⊎ ((needs π v f r ≡ 2) × (i ≡ over r 1)) → ⊥
-          no (inl y) = a y
-          no (inr y) = b (y .0) (y .1)
+      no : (k ≡ over r 0) ⊎ ((needs π v f r ≡ 2) × (k ≡ over r 1)) → ⊥
+      no (inl y) = a y
+      no (inr y) = b (y .0) (y .1)
 
-      go : (t : Bool) → P i ≡ t → t ≡ false
-      go true q = absurd (on (present-split π v f r i q))
+      go : (t : Bool) → isNew π v f r k ≡ t → t ≡ false
+      go true q = absurd (no (new-cases k q))
       go false q = refl
+
+  absent′ : (i : ℕ) → present π v f i ≡ false → i ≢ over r 0 → (needs π v f r ≡ 2 → i ≢ over r 1) → present′ π v f r i ≡ false
+  absent′ i h a b = present-not π v f r i (new-not i a b) ∙ h
 
   -- block r stands above all others
   pub last-new : (k : ℕ) → present π v f k ≡ true → k < over r 0
   last-new k p = omega (arith, present-high π v f k p, over-zero r, ok .next)
 
   -- the new pointer block stands below all others
-  pub first-new : needs π v f r ≡ 2 → (k : ℕ) → present′ π v f r k ≡ true → k ≢ over r 1 → over r 1 < k
-  first-new n k p ne = go (ltb 288 k) refl
-    where
-      is : over r 1 ≡ 288 - (r - 64) / 128
-      is = over-near r (ok .far) (new-not-home π v f r ok 1 (omega arith)) .1 .0
-
-      go : (t : Bool) → ltb 288 k ≡ t → over r 1 < k
-      go true q = omega (arith, is, ltb-true 288 k q)
-      go false q =
-          let l = ltb-false 288 k q in
-          omega (arith, is, ne, first-pointer k l, asked′ π v f r ok k (λ z. omega arith) p)
-
   pub first-old : needs π v f r ≡ 2 → (k : ℕ) → present π v f k ≡ true → over r 1 < k
-  first-old n k p = first-new n k (present-old π v f r k p) (λ z. true≢false (sym p ∙ ap (present π v f) z ∙ new-absent π v f r ok 1 (omega arith)))
+  first-old n k p =
+      let ne : k ≢ over r 1 = λ z. true≢false (sym p ∙ ap (present π v f) z ∙ new-absent π v f r ok 1 (omega arith)) in
+      omega (arith, ne, over-least r, range′ π v f r ok k (present-old π v f r k p) .0)
 
   -- ---- the neighbours
 
@@ -160,7 +149,7 @@ module _ (π : Partition) (v : View) (f r : ℕ) (ok : Ready π v f r) where
       a = below-is π v f (ok .formed) k (present-low π v f k p)
 
       k-pos : 0 < k
-      k-pos = present-pos π v f (ok .cand) (ok .formed) k p
+      k-pos = omega (arith, pos′, range′ π v f r ok k (present-old π v f r k p) .0)
 
       first-one : (below π v f k ≢ 0 → ⊥) → least π v f ≡ k
       first-one n = next-one (present π v f) 0 _ k (least-is π v f (ok .formed)) (record { hit = λ _. (p, k-pos); none = λ j b c. a .none j b (c (λ w. omega (arith, k-pos))) (λ x. absurd (n x)) })
