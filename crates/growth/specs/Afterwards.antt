@@ -17,7 +17,7 @@ use Rattle.volume.specs.Index.{here-of, spot-home, present-home, wf-of, member,
 use Rattle.volume.specs.Plans.{freeAt}
 use Rattle.volume.specs.Writes.{over, needs, isNew, fresh, present′, spot′}
 use Rattle.growth.specs.Ready.{Behind, Ready}
-use Rattle.growth.specs.Path.{or-left, or-right, or-split, over-zero, over-data, placed, needs-some, needs-two, new-at, new-gone, new-first, fresh-at, fresh-in, fresh-free, fresh-one}
+use Rattle.growth.specs.Path.{never, or-left, or-right, or-split, over-zero, over-data, placed, needs-some, needs-two, new-at, new-gone, new-first, fresh-at, fresh-in, fresh-free, fresh-one}
 
 module _ (π : Partition) (v : View) (f r : ℕ) where
   -- ---- what is present, and where
@@ -83,7 +83,7 @@ module _ (π : Partition) (v : View) (f r : ℕ) where
             ap (present′ π v f r) e ∙ present-new (over r 0) (new-at π v f r ok 0 (needs-some π v f r))
 
         pointer-key : k ≤ 288 → r ≤ first k → present′ π v f r k ≡ true
-        pointer-key h m = ap (present′ π v f r) e ∙ present-new (over r 1) (new-at π v f r ok 1 (omega (arith, needs-two π v f r ok (absent (present π v f (over r 1)) refl))))
+        pointer-key h m = ap (present′ π v f r) e ∙ present-new (over r 1) (new-at π v f r ok 1 (omega (arith, needs-two π v f r ok absent)))
           where
             e : k ≡ over r 1
             e = let g = first-pointer k h in let q : 64 ≤ r = omega (arith) in omega (arith, over-data r q)
@@ -91,9 +91,8 @@ module _ (π : Partition) (v : View) (f r : ℕ) where
             n : over r 1 ≢ home
             n z = omega (arith, e)
 
-            absent : (t : Bool) → present π v f (over r 1) ≡ t → t ≡ false
-            absent true q = absurd (omega (arith, here-of π v f (over r 1) n q .asked, ap first e, ok .next))
-            absent false q = refl
+            absent : present π v f (over r 1) ≡ false
+            absent = never _ (λ q. omega (arith, here-of π v f (over r 1) n q .asked, ap first e, ok .next))
 
         last : r ≤ first k → (t : Bool) → ltb home k ≡ t → (u : Bool) → ltb 288 k ≡ u → (x : Bool) → eqb k home ≡ x → present′ π v f r k ≡ true
         last m true p u q x y = data-key (ltb-true home k p) m
@@ -112,11 +111,7 @@ module _ (π : Partition) (v : View) (f r : ℕ) where
     -- ---- old keys keep their blocks, and new ones get the first free blocks
 
     pub new-old : (k : ℕ) → present π v f k ≡ true → isNew π v f r k ≡ false
-    new-old k h = go (isNew π v f r k) refl
-      where
-        go : (t : Bool) → isNew π v f r k ≡ t → t ≡ false
-        go true q = absurd (true≢false (sym h ∙ new-gone π v f r ok k q))
-        go false q = refl
+    new-old k h = never _ (λ q. true≢false (sym h ∙ new-gone π v f r ok k q))
 
     pub spot-is : (k : ℕ) → present π v f k ≡ true → spot′ π v f r k ≡ spot π v f k
     spot-is k p = spot-old k (new-old k p)

@@ -21,7 +21,7 @@ use Rattle.volume.specs.Writes.{isNew, fresh, present′, spot′, above′, be
 use Rattle.frame.specs.Reading.{two}
 use Rattle.frame.specs.FreeChain.{Links}
 use Rattle.growth.specs.Ready.{Tails, Ready}
-use Rattle.growth.specs.Path.{new-first}
+use Rattle.growth.specs.Path.{never, new-first}
 use Rattle.growth.specs.Afterwards.{present-not, len-more, spot-is}
 use Rattle.growth.specs.Written.{Written, written-present, written-spot, written-above, written-below, written-formed}
 use Rattle.growth.specs.Grown.{grown-next, grown-prev}
@@ -90,11 +90,7 @@ module _ (π : Partition) (v : View) (f r : ℕ) (dat : Rec) (ok : Ready π v f 
         more = subst (λ (x : ℕ). x ≤ first (child k (slotAt i))) (w .length) h
 
         not-new : isNew π v f r (child k (slotAt i)) ≡ false
-        not-new = go (isNew π v f r (child k (slotAt i))) refl
-          where
-            go : (t : Bool) → isNew π v f r (child k (slotAt i)) ≡ t → t ≡ false
-            go true z = absurd (omega (arith, new-first π v f r (ok .file) _ z, more))
-            go false z = refl
+        not-new = never _ (λ z. omega (arith, new-first π v f r (ok .file) _ z, more))
 
         go : (t : Bool) → isNew π v f r (up (child k (slotAt i))) ≡ t → pick t 0 (entry π v f (child k (slotAt i))) ≡ 0
         go true z = refl

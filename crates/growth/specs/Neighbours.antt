@@ -1,11 +1,9 @@
 -- Link order after a write: what above, below and least find. Block r comes behind the old last block and a new pointer block before all others; every other block keeps its neighbours.
-use mathlib.Core.Path.{_≡_, refl, sym, ap, _∙_}
-use mathlib.Core.Logic.{_⊎_, inl, inr, _≢_}
+use mathlib.Core.Path.{_≡_, sym, ap, _∙_}
+use mathlib.Core.Logic.{_⊎_, inl, inr, ⊎-elim, _≢_}
 use mathlib.Core.Bool.{Bool, true, false, true≢false}
 use Prim.Native.Nat.{ℕ, zero, suc, _+_, _-_, _≤_, _<_}
 use native.Mathlib.Omega.{arith}
-use lib.Dec.{ltb}
-use borrow.Author.Tests.{ltb-true, ltb-false}
 use Rattle.image.specs.View.{View}
 use Rattle.volume.specs.Search.{seek, down, Least, Greatest, seek-least, down-greatest}
 use Rattle.volume.specs.Keys.{home, low, span}
@@ -16,38 +14,29 @@ use Rattle.volume.specs.Index.{present-low, present-high, wf-of}
 use Rattle.volume.specs.Order.{Next, Prev, next-one, prev-one, above-is, below-is, least-is, least-present}
 use Rattle.volume.specs.Writes.{over, needs, isNew, present′, above′, below′, least′}
 use Rattle.growth.specs.Ready.{Behind}
-use Rattle.growth.specs.Path.{over-zero, over-least, placed, needs-few, new-absent}
+use Rattle.growth.specs.Path.{never, over-zero, over-least, placed, needs-few, new-absent}
 use Rattle.growth.specs.Afterwards.{present-old, present-not, len-short, range′, home-there}
 
 -- ---- a search over all numbers that may pass
 
 module _ (P : ℕ → Bool) (a e : ℕ) (pos : 0 < a) (inn : (i : ℕ) → P i ≡ true → (a ≤ i) × (i ≤ e)) where
-  out : (i : ℕ) → (P i ≡ true → ⊥) → P i ≡ false
-  out i n = go (P i) refl
-    where
-      go : (t : Bool) → P i ≡ t → t ≡ false
-      go true q = absurd (n q)
-      go false q = refl
-
   pub seek-next : (k n : ℕ) → e < suc k + n → Next P k (seek n (suc k) P)
-  seek-next k n l = record { hit = λ m. (s .hit m .0, s .hit m .1 .0); none = λ i a m. at i a m (ltb e i) refl }
+  seek-next k n l = record { hit = λ m. (s .hit m .0, s .hit m .1 .0); none = λ i b m. never _ (λ p. true≢false (sym p ∙ s .none i b (omega (arith, inn i p .1)) m)) }
     where
       s : Least P (suc k) (suc k + n) (seek n (suc k) P)
       s = seek-least n (suc k) P (omega arith)
 
-      at : (i : ℕ) → k < i → (seek n (suc k) P ≢ 0 → i < seek n (suc k) P) → (t : Bool) → ltb e i ≡ t → P i ≡ false
-      at i a m true q = out i (λ p. omega (arith, ltb-true e i q, inn i p .1))
-      at i a m false q = s .none i a (omega (arith, ltb-false e i q)) m
+  pub seek-first : (n : ℕ) → e < a + n → Next P 0 (seek n a P)
+  seek-first n l = record { hit = λ m. (s .hit m .0, omega (arith, s .hit m .1 .0)); none = λ i b m. never _ (λ p. true≢false (sym p ∙ s .none i (inn i p .0) (omega (arith, inn i p .1)) m)) }
+    where
+      s : Least P a (a + n) (seek n a P)
+      s = seek-least n a P pos
 
   pub down-prev : (k : ℕ) → Prev P k (down a (k - a) P)
-  down-prev k = record { hit = λ m. (s .hit m .0, omega (arith, s .hit m .1)); none = λ i p l m. at i l m (ltb i a) refl }
+  down-prev k = record { hit = λ m. (s .hit m .0, omega (arith, s .hit m .1)); none = λ i b l m. never _ (λ p. true≢false (sym p ∙ s .none i (inn i p .0) (omega (arith, inn i p .0)) m)) }
     where
       s : Greatest P a (a + (k - a)) (down a (k - a) P)
       s = down-greatest a (k - a) P pos
-
-      at : (i : ℕ) → i < k → (down a (k - a) P ≢ 0 → down a (k - a) P < i) → (t : Bool) → ltb i a ≡ t → P i ≡ false
-      at i l m true q = out i (λ p. omega (arith, ltb-true i a q, inn i p .0))
-      at i l m false q = let b = ltb-false i a q in s .none i b (omega arith) m
 
 module _ (π : Partition) (v : View) (f r : ℕ) (ok : Behind π v f r) where
   abbrev P : ℕ → Bool
@@ -67,14 +56,7 @@ module _ (π : Partition) (v : View) (f r : ℕ) (ok : Behind π v f r) where
 
   pub least′-is : Next (present′ π v f r) 0 (least′ π v f r)
   unfolding least′
-  least′-is = record { hit = λ n. (s .hit n .0, omega (arith, s .hit n .1 .0, pos′)); none = λ i a m. at i m (P i) refl }
-    where
-      s : Least P (low (suc r)) (low (suc r) + span (suc r)) (seek (span (suc r)) (low (suc r)) P)
-      s = seek-least (span (suc r)) (low (suc r)) P pos′
-
-      at : (i : ℕ) → (seek (span (suc r)) (low (suc r)) P ≢ 0 → i < seek (span (suc r)) (low (suc r)) P) → (t : Bool) → P i ≡ t → t ≡ false
-      at i m false q = refl
-      at i m true q = let b = range′ π v f r ok i q in sym q ∙ s .none i (b .0) (omega (arith, b .1, span-end (suc r))) m
+  least′-is = seek-first P (low (suc r)) (home + suc r) pos′ (range′ π v f r ok) (span (suc r)) (omega (arith, span-end (suc r)))
 
   pub least′-there : (least′ π v f r ≢ 0) × (present′ π v f r (least′ π v f r) ≡ true)
   least′-there = (ne, least′-is .hit ne .0)
@@ -95,15 +77,7 @@ module _ (π : Partition) (v : View) (f r : ℕ) (ok : Behind π v f r) where
 
   -- what is neither of them is old
   pub new-not : (k : ℕ) → k ≢ over r 0 → (needs π v f r ≡ 2 → k ≢ over r 1) → isNew π v f r k ≡ false
-  new-not k a b = go (isNew π v f r k) refl
-    where
-      no : (k ≡ over r 0) ⊎ ((needs π v f r ≡ 2) × (k ≡ over r 1)) → ⊥
-      no (inl y) = a y
-      no (inr y) = b (y .0) (y .1)
-
-      go : (t : Bool) → isNew π v f r k ≡ t → t ≡ false
-      go true q = absurd (no (new-cases k q))
-      go false q = refl
+  new-not k a b = never _ (λ q. ⊎-elim a (λ y. b (y .0) (y .1)) (new-cases k q))
 
   absent′ : (i : ℕ) → present π v f i ≡ false → i ≢ over r 0 → (needs π v f r ≡ 2 → i ≢ over r 1) → present′ π v f r i ≡ false
   absent′ i h a b = present-not π v f r i (new-not i a b) ∙ h

@@ -18,6 +18,11 @@ use Rattle.volume.specs.Plans.{freeAt}
 use Rattle.volume.specs.Writes.{over, needs, newly, isNew, fresh, present′}
 use Rattle.growth.specs.Ready.{Behind, Ready}
 
+-- a test that cannot hold
+pub never : (t : Bool) → (t ≡ true → ⊥) → t ≡ false
+never true h = absurd (h refl)
+never false h = refl
+
 pub or-left : (a b : Bool) → a ≡ true → (a || b) ≡ true
 or-left a b q = ap (λ (t : Bool). t || b) q
 
@@ -105,20 +110,12 @@ module _ (π : Partition) (v : View) (f r : ℕ) where
     -- block r is absent
     hole : present π v f (over r 0) ≡ false
     unfolding over
-    hole = go (present π v f (292 + r)) refl
-      where
-        go : (t : Bool) → present π v f (292 + r) ≡ t → t ≡ false
-        go true q = absurd (omega (arith, here-of π v f (292 + r) (λ z. omega arith) q .asked, first-data (292 + r) (omega arith), ok .next))
-        go false q = refl
+    hole = never _ (λ q. omega (arith, here-of π v f (292 + r) (λ z. omega arith) q .asked, first-data (292 + r) (omega arith), ok .next))
 
     -- what is new is absent, and L does not ask for it
     pub new-absent : (i : ℕ) → i < needs π v f r → present π v f (over r i) ≡ false
     new-absent zero l = hole
-    new-absent (suc zero) l = go (present π v f (over r 1)) refl
-      where
-        go : (a : Bool) → present π v f (over r 1) ≡ a → a ≡ false
-        go true p = absurd (omega (arith, needs-one p))
-        go false p = refl
+    new-absent (suc zero) l = never _ (λ p. omega (arith, needs-one p))
     new-absent (suc (suc i)) l = absurd (omega (arith, needs-few))
 
     pub new-beyond : (i : ℕ) → i < needs π v f r → len v f ≤ first (over r i)
@@ -223,11 +220,7 @@ module _ (π : Partition) (v : View) (f r : ℕ) where
           go false q = or-right (isNew π v f r (up k)) (present π v f (up k)) (ap (present π v f) (same ∙ ap (over r) (let z : suc (p .i) ≡ needs π v f r = omega (arith, ltb-false (suc (p .i)) (needs π v f r) q, p .less) in z)) ∙ held)
 
     pub home-old : isNew π v f r home ≡ false
-    home-old = go (isNew π v f r home) refl
-      where
-        go : (t : Bool) → isNew π v f r home ≡ t → t ≡ false
-        go true q = absurd (new-inner home q refl)
-        go false q = refl
+    home-old = never _ (λ q. new-inner home q refl)
 
   module _ (ok : Ready π v f r) where
     -- the block of a new key lies in the partition, and is free

@@ -24,7 +24,7 @@ use Rattle.volume.specs.Plans.{freeAt}
 use Rattle.volume.specs.Writes.{over, isNew, fresh, present′, spot′, above′, below′, least′, size′}
 use Rattle.frame.specs.Repair.{lda-self}
 use Rattle.growth.specs.Ready.{Tails, Ready}
-use Rattle.growth.specs.Path.{over-zero, new-at, fresh-at, needs-some, new-first, new-up, fresh-in, home-old}
+use Rattle.growth.specs.Path.{never, over-zero, new-at, fresh-at, needs-some, new-first, new-up, fresh-in, home-old}
 use Rattle.growth.specs.Afterwards.{present-new, present-old, present-split, present-not, spot-new, spot-old, len-more, len-short, asked′, full′, new-old}
 use Rattle.growth.specs.Neighbours.{least′-there}
 
@@ -177,11 +177,7 @@ module _ (π : Partition) (v : View) (f r : ℕ) where
         at-home u = entry-fib π u f k q
 
         not-new : isNew π v f r k ≡ false
-        not-new = go (isNew π v f r k) refl
-          where
-            go : (t : Bool) → isNew π v f r k ≡ t → t ≡ false
-            go true z = absurd (omega (arith, new-first π v f r (ok .file) k z, w .length))
-            go false z = refl
+        not-new = never _ (λ z. omega (arith, new-first π v f r (ok .file) k z, w .length))
 
     -- the last block is block r
     end-is : home + len W f ≡ over r 0
