@@ -1,26 +1,30 @@
 -- The records of a write of block n, but for their links, in plain numbers: the new data block, the pointer block over it, an old block, the FIB.
-use mathlib.Core.Path.{_≡_, refl, sym, ap, ap₂, _∙_}
+use mathlib.Core.Path.{_≡_, refl, sym, ap, ap₂, _∙_, subst}
 use mathlib.Core.Logic.{_≢_}
-use mathlib.Core.Bool.{Bool, true, false, _&&_, _||_}
-use Prim.Native.Nat.{ℕ, _+_, _/_, _%_, _≤_, _<_}
+use mathlib.Core.Bool.{Bool, true, false, not}
+use Prim.Native.Nat.{ℕ, _+_, _-_, _/_, _%_, _≤_, _<_}
 use native.Mathlib.Omega.{arith}
 use lib.Dec.{leb, ltb, eqb}
-use borrow.Author.Tests.{ltb-true, ltb-false, eq-eqb, ne-eqb}
+use borrow.Author.Tests.{ltb-true, eq-eqb, ne-eqb}
 use Rattle.base.specs.Tests.{pick, both}
 use Rattle.drive.specs.Address.{pda, lda}
 use Rattle.image.specs.View.{View, Rec, put, put2, blank}
 use Rattle.image.specs.Saves.{withData}
 use Rattle.volume.specs.Words.{serialAt, relativeAt, fillerAt, slotAt, directAt, indirectAt, inUseAt, lastBlockAt, lastAddressAt, lowNumberAt, lowAddressAt}
 use Rattle.volume.specs.Keys.{home, number, slot, low}
-use Rattle.volume.specs.KeyLaws.{low-home}
-use Rattle.volume.specs.Files.{wellFormed, len, spot}
+use Rattle.volume.specs.KeyLaws.{low-home, row-ptr, first-pointer}
+use Rattle.volume.specs.Files.{spot}
 use Rattle.volume.specs.declared.Partition.{Partition}
 use Rattle.volume.specs.Closed.{sizeOf}
 use Rattle.volume.specs.Plans.{freeAt}
 use Rattle.volume.specs.Reads.{address-lda}
-use Rattle.volume.specs.Writes.{put2If, over, counted, isNew, spot′, least′, size′, empty, base, entered, ended, body}
-use Rattle.append.specs.Numbers.{grows, grows-at, over-zero, over-fib, over-pointer, over-two, slot-direct, slot-data, slot-pointer, low-many}
-use Rattle.append.specs.Grown.{needs-is, new-is, fresh-is, least-is, size-is}
+use Rattle.volume.specs.Writes.{put2If, over, counted, needs, isNew, spot′, empty, base, entered, ended, body}
+use Rattle.growth.specs.Ready.{Behind}
+use Rattle.growth.specs.Path.{both-none, over-zero, over-data, over-near, over-two, needs-some, new-at, new-not-home, new-beyond, fresh-at}
+use Rattle.growth.specs.Afterwards.{new-old}
+use Rattle.growth.specs.Grown.{body-inner, base-new, base-old, ended-is}
+use Rattle.append.specs.Numbers.{grows, over-low, over-home, slot-direct, slot-data}
+use Rattle.append.specs.Grown.{over-there, takes-is, least-is, size-is}
 
 -- block b of the file f as a new block with key k
 unfoldable pub stamped : ℕ → View → ℕ → ℕ → ℕ → Rec
@@ -37,127 +41,95 @@ grownFib d v f n a q b =
     (put lastBlockAt n (put2 lastAddressAt (lda d a)
     (put2If (ltb n 64) (directAt n) (lda d a) (put2If (grows n) (indirectAt (n / 128)) (lda d q) (v f)))))))
 
--- a test and false
-neither : (t : Bool) → both t false ≡ false
-unfolding both
-neither true = refl
-neither false = refl
+-- an entry that is put where another test says so, at the same place
+put-same : (t u : Bool) (i j a : ℕ) (x y : Rec) → t ≡ u → (u ≡ true → i ≡ j) → x ≡ y → put2If t i a x ≡ put2If u j a y
+unfolding put2If
+put-same t true i j a x y p q z = ap (λ (b : Bool). pick b (put2 i a x) x) p ∙ ap₂ (λ (w : ℕ) (r : Rec). put2 w a r) (q refl) z
+put-same t false i j a x y p q z = ap (λ (b : Bool). pick b (put2 i a x) x) p ∙ z
 
--- the key over block n is the FIB's or a pointer block's
-pub over-low : (n : ℕ) → over n 1 ≤ home
-over-low n = go (ltb n 64) refl
-  where
-    go : (t : Bool) → ltb n 64 ≡ t → over n 1 ≤ home
-    go true q = omega (arith, over-fib n (ltb-true n 64 q))
-    go false q = omega (arith, over-pointer n (ltb-false n 64 q), low-home (n + 1))
+module _ (π : Partition) (v : View) (f n : ℕ) (at : Behind π v f n) (dat : Rec) where
+  -- the addresses of the new blocks
+  abbrev A : ℕ
+  A = lda (π .drive) (freeAt π v 0)
 
-module _ (π : Partition) (v : View) (f n : ℕ) (wf : wellFormed π v f ≡ true) (next : n ≡ len v f) (far : n < 4160) (dat : Rec) where
+  abbrev Q : ℕ
+  Q = lda (π .drive) (freeAt π v 1)
+
   -- the entries that a block gains: that of block n, and in the FIB that of a new pointer block
-  entered-is : (k : ℕ) (x : Rec) → entered π v f n dat k x
-      ≡ put2If (eqb (over n 1) k) (slot (over n 0)) (lda (π .drive) (freeAt π v 0)) (put2If (both (grows n) (eqb home k)) (slot (over n 1)) (lda (π .drive) (freeAt π v 1)) x)
+  entered-is : (k : ℕ) (x : Rec) → entered π v f n dat k x ≡ put2If (eqb (over n 1) k) (slot (over n 0)) A (put2If (both (grows n) (eqb home k)) (slot (over n 1)) Q x)
   unfolding entered both put2If
   entered-is k x =
-      ap₂ (λ (m j : ℕ). put2If (both (leb 1 m) (eqb (over n 1) k)) (slot (over n 0)) (lda (π .drive) (freeAt π v 0))
-      (put2If (both (leb 2 m) (eqb j k)) (slot (over n 1)) (lda (π .drive) (freeAt π v 1)) (put2If (both (leb 3 m) (eqb (over n 3) k)) (slot (over n 2)) (lda (π .drive) (freeAt π v 2)) x)))
-      (needs-is π v f n wf next far) (over-two n far) ∙ go (grows n)
+      ap₂ (λ (m j : ℕ). put2If (both (leb 1 m) (eqb (over n 1) k)) (slot (over n 0)) A
+      (put2If (both (leb 2 m) (eqb j k)) (slot (over n 1)) Q (put2If (both (leb 3 m) (eqb (over n 3) k)) (slot (over n 2)) (lda (π .drive) (freeAt π v 2)) x)))
+      (takes-is π v f n at) (over-two n (at .far)) ∙ go (grows n)
     where
-      go : (t : Bool) → put2If (both (leb 1 (pick t 2 1)) (eqb (over n 1) k)) (slot (over n 0)) (lda (π .drive) (freeAt π v 0))
-          (put2If (both (leb 2 (pick t 2 1)) (eqb home k)) (slot (over n 1)) (lda (π .drive) (freeAt π v 1)) (put2If (both (leb 3 (pick t 2 1)) (eqb (over n 3) k)) (slot (over n 2)) (lda (π .drive) (freeAt π v 2)) x))
-          ≡ put2If (eqb (over n 1) k) (slot (over n 0)) (lda (π .drive) (freeAt π v 0)) (put2If (both t (eqb home k)) (slot (over n 1)) (lda (π .drive) (freeAt π v 1)) x)
+      go : (t : Bool) → put2If (both (leb 1 (pick t 2 1)) (eqb (over n 1) k)) (slot (over n 0)) A
+          (put2If (both (leb 2 (pick t 2 1)) (eqb home k)) (slot (over n 1)) Q (put2If (both (leb 3 (pick t 2 1)) (eqb (over n 3) k)) (slot (over n 2)) (lda (π .drive) (freeAt π v 2)) x))
+          ≡ put2If (eqb (over n 1) k) (slot (over n 0)) A (put2If (both t (eqb home k)) (slot (over n 1)) Q x)
       go true = refl
       go false = refl
 
-  entered-none : (k : ℕ) (x : Rec) → over n 1 ≢ k → home ≢ k → entered π v f n dat k x ≡ x
+  -- in a block but the FIB, where t says whether it is over block n
+  body-is : (k : ℕ) (t : Bool) → k ≢ home → eqb (over n 1) k ≡ t → body π v f n dat k ≡ put2If t (slot (over n 0)) A (base π v f n dat k)
   unfolding put2If
-  entered-none k x a b =
-      entered-is k x ∙ ap₂ (λ (t u : Bool). put2If t (slot (over n 0)) (lda (π .drive) (freeAt π v 0)) (put2If u (slot (over n 1)) (lda (π .drive) (freeAt π v 1)) x))
-      (ne-eqb (over n 1) k a) (ap (both (grows n)) (ne-eqb home k b) ∙ neither (grows n))
-
-  body-inner : (k : ℕ) → k ≢ home → body π v f n dat k ≡ entered π v f n dat k (base π v f n dat k)
-  unfolding body
-  body-inner k h = ap (λ (t : Bool). pick t (counted π (size′ π v f n) (number (least′ π v f n)) (spot′ π v f n (least′ π v f n)) (ended π v f n dat (entered π v f n dat home (v f)))) (entered π v f n dat k (base π v f n dat k))) (ne-eqb k home h)
+  body-is k t h q =
+      body-inner π v f n dat k h ∙ entered-is k _
+      ∙ ap₂ (λ (t u : Bool). put2If t (slot (over n 0)) A (put2If u (slot (over n 1)) Q (base π v f n dat k))) q (ap (both (grows n)) (ne-eqb home k (λ z. h (sym z))) ∙ both-none (grows n))
 
   -- the new data block
   pub body-data : body π v f n dat (292 + n) ≡ withData dat (stamped (π .drive) v f (freeAt π v 0) (292 + n))
-  unfolding base empty stamped
+  unfolding over put2If empty stamped
   body-data =
-      body-inner (292 + n) (λ z. omega arith) ∙ entered-none (292 + n) _ (λ z. omega (arith, z, over-low n)) (λ z. omega arith)
-      ∙ ap₂ (λ (t u : Bool). pick t (pick u (withData dat (empty π v f n dat (292 + n))) (empty π v f n dat (292 + n))) (v (spot π v f (292 + n))))
-      (new-is π v f n wf next far (292 + n) ∙ ap (λ (t : Bool). t || (grows n && eqb (292 + n) (low (n + 1)))) (eq-eqb (292 + n) (292 + n) refl)) (eq-eqb (292 + n) (over n 0) (sym (over-zero n)))
-      ∙ ap (λ (b : ℕ). withData dat (stamped (π .drive) v f b (292 + n)))
-      (fresh-is π v f n wf next far (292 + n) ∙ ap (λ (t : Bool). pick t (freeAt π v 0) (pick ((grows n && eqb (292 + n) (low (n + 1)))) (freeAt π v 1) (freeAt π v 2))) (eq-eqb (292 + n) (292 + n) refl))
+      body-is (292 + n) false (λ z. omega arith) (ne-eqb (over n 1) (292 + n) (λ z. omega (arith, z, over-low n, low-home (n + 1))))
+      ∙ base-new π v f n dat (292 + n) (new-at π v f n at 0 (needs-some π v f n))
+      ∙ ap (λ (t : Bool). pick t (withData dat (empty π v f n dat (292 + n))) (empty π v f n dat (292 + n))) (eq-eqb (292 + n) (292 + n) refl)
+      ∙ ap (λ (b : ℕ). withData dat (stamped (π .drive) v f b (292 + n))) (fresh-at π v f n at 0 (needs-some π v f n))
 
-  -- the pointer block over block n, new or old
-  base-pointer : 64 ≤ n → base π v f n dat (low (n + 1)) ≡ pointerBase π v f n (freeAt π v 1) (grows n)
-  unfolding base empty stamped both pointerBase
-  base-pointer l = go (grows n) refl
+  -- the pointer block over block n
+  two : grows n ≡ true → 1 < needs π v f n
+  two g = omega (arith, takes-is π v f n at ∙ ap (λ (t : Bool). pick t 2 1) g)
+
+  base-pointer : base π v f n dat (low (n + 1)) ≡ pointerBase π v f n (freeAt π v 1) (grows n)
+  unfolding pointerBase empty stamped
+  base-pointer = go (grows n) refl
     where
-      off : eqb (low (n + 1)) (292 + n) ≡ false
-      off = ne-eqb (low (n + 1)) (292 + n) (λ z. omega (arith, z, low-home (n + 1)))
-
-      new : (t : Bool) → grows n ≡ t → isNew π v f n (low (n + 1)) ≡ t
-      new t g = new-is π v f n wf next far (low (n + 1)) ∙ ap₂ (λ (a b : Bool). a || (b && eqb (low (n + 1)) (low (n + 1)))) off g ∙ on t
-        where
-          on : (t : Bool) → (t && eqb (low (n + 1)) (low (n + 1))) ≡ t
-          on true = eq-eqb (low (n + 1)) (low (n + 1)) refl
-          on false = refl
+      new : 1 < needs π v f n → base π v f n dat (over n 1) ≡ stamped (π .drive) v f (freeAt π v 1) (over n 1)
+      new l =
+          base-new π v f n dat (over n 1) (new-at π v f n at 1 l)
+          ∙ ap (λ (t : Bool). pick t (withData dat (empty π v f n dat (over n 1))) (empty π v f n dat (over n 1))) (ne-eqb (over n 1) (over n 0) (λ z. omega (arith, z, over-zero n, over-low n, low-home (n + 1))))
+          ∙ ap (λ (b : ℕ). stamped (π .drive) v f b (over n 1)) (fresh-at π v f n at 1 l)
 
       go : (t : Bool) → grows n ≡ t → base π v f n dat (low (n + 1)) ≡ pick t (stamped (π .drive) v f (freeAt π v 1) (low (n + 1))) (v (spot π v f (low (n + 1))))
-      go true g =
-          ap₂ (λ (t u : Bool). pick t (pick u (withData dat (empty π v f n dat (low (n + 1)))) (empty π v f n dat (low (n + 1)))) (v (spot π v f (low (n + 1)))))
-          (new true g) (ap (eqb (low (n + 1))) (over-zero n) ∙ off)
-          ∙ ap (λ (b : ℕ). stamped (π .drive) v f b (low (n + 1)))
-          (fresh-is π v f n wf next far (low (n + 1)) ∙ ap₂ (λ (a b : Bool). pick a (freeAt π v 0) (pick b (freeAt π v 1) (freeAt π v 2)))
-          off (ap₂ _&&_ g (eq-eqb (low (n + 1)) (low (n + 1)) refl)))
-      go false g = ap (λ (t : Bool). pick t (pick (eqb (low (n + 1)) (over n 0)) (withData dat (empty π v f n dat (low (n + 1)))) (empty π v f n dat (low (n + 1)))) (v (spot π v f (low (n + 1))))) (new false g)
+      go true g = subst (λ (k : ℕ). base π v f n dat k ≡ stamped (π .drive) v f (freeAt π v 1) k) (over-low n) (new (two g))
+      go false g = base-old π v f n dat (low (n + 1)) (new-old π v f n at (low (n + 1)) (over-there π v f n at ∙ ap not g))
 
-  pub body-pointer : 64 ≤ n → body π v f n dat (low (n + 1)) ≡ put2 (slotAt ((n + 64) % 128)) (lda (π .drive) (freeAt π v 0)) (pointerBase π v f n (freeAt π v 1) (grows n))
+  pub body-pointer : 64 ≤ n → body π v f n dat (low (n + 1)) ≡ put2 (slotAt ((n + 64) % 128)) A (pointerBase π v f n (freeAt π v 1) (grows n))
   unfolding put2If
   body-pointer l =
-      let e = low-many (n + 1) (omega arith) in
-      body-inner (low (n + 1)) (λ z. omega arith) ∙ entered-is (low (n + 1)) _
-      ∙ ap₂ (λ (t u : Bool). put2If t (slot (over n 0)) (lda (π .drive) (freeAt π v 0)) (put2If u (slot (over n 1)) (lda (π .drive) (freeAt π v 1)) (base π v f n dat (low (n + 1)))))
-      (eq-eqb (over n 1) (low (n + 1)) (over-pointer n l)) (ap (both (grows n)) (ne-eqb home (low (n + 1)) (λ z. omega arith)) ∙ neither (grows n))
-      ∙ ap₂ (λ (w : ℕ) (x : Rec). put2 w (lda (π .drive) (freeAt π v 0)) x) (slot-data n l) (base-pointer l)
+      body-is (low (n + 1)) true (λ z. omega (arith, z, over-low n, over-data n l)) (eq-eqb (over n 1) (low (n + 1)) (over-low n))
+      ∙ ap₂ (λ (w : ℕ) (x : Rec). put2 w A x) (slot-data n l) base-pointer
 
   -- an old block but the FIB and the one over block n
   pub body-old : (k : ℕ) → isNew π v f n k ≡ false → k ≢ home → over n 1 ≢ k → body π v f n dat k ≡ v (spot π v f k)
-  unfolding base
-  body-old k o h a =
-      body-inner k h ∙ entered-none k _ a (λ z. h (sym z))
-      ∙ ap (λ (t : Bool). pick t (pick (eqb k (over n 0)) (withData dat (empty π v f n dat k)) (empty π v f n dat k)) (v (spot π v f k))) o
+  unfolding put2If
+  body-old k o h a = body-is k false h (ne-eqb (over n 1) k a) ∙ base-old π v f n dat k o
 
   -- the FIB
-  entered-home : entered π v f n dat home (v f)
-      ≡ put2If (ltb n 64) (directAt n) (lda (π .drive) (freeAt π v 0)) (put2If (grows n) (indirectAt (n / 128)) (lda (π .drive) (freeAt π v 1)) (v f))
-  unfolding put2If both
-  entered-home = entered-is home (v f) ∙ go (ltb n 64) refl (grows n) refl
+  slot-pointer : grows n ≡ true → slot (over n 1) ≡ indirectAt (n / 128)
+  slot-pointer g =
+      let l = over-near n (new-not-home π v f n at 1 (two g)) in
+      let e = over-data n l in
+      ap slot e ∙ row-ptr ((n - 64) / 128) (omega (arith, at .far)) .1
+      ∙ omega (arith, new-beyond π v f n at 1 (two g), at .next, first-pointer (over n 1) (omega arith))
+
+  entered-home : entered π v f n dat home (v f) ≡ put2If (ltb n 64) (directAt n) A (put2If (grows n) (indirectAt (n / 128)) Q (v f))
+  unfolding both
+  entered-home =
+      entered-is home (v f) ∙ put-same _ (ltb n 64) _ _ A _ _ (over-home n) (λ q. slot-direct n (ltb-true n 64 q)) (put-same _ (grows n) _ _ Q (v f) (v f) (one (grows n)) slot-pointer refl)
     where
       one : (t : Bool) → both t (eqb home home) ≡ t
       one true = refl
       one false = refl
-
-      go : (t : Bool) → ltb n 64 ≡ t → (u : Bool) → grows n ≡ u
-          → put2If (eqb (over n 1) home) (slot (over n 0)) (lda (π .drive) (freeAt π v 0)) (put2If (both (grows n) (eqb home home)) (slot (over n 1)) (lda (π .drive) (freeAt π v 1)) (v f))
-          ≡ put2If t (directAt n) (lda (π .drive) (freeAt π v 0)) (put2If u (indirectAt (n / 128)) (lda (π .drive) (freeAt π v 1)) (v f))
-      go true q true g = absurd (omega (arith, ltb-true n 64 q, grows-at n g .0))
-      go true q false g =
-          ap₂ (λ (a b : Bool). put2If a (slot (over n 0)) (lda (π .drive) (freeAt π v 0)) (put2If b (slot (over n 1)) (lda (π .drive) (freeAt π v 1)) (v f)))
-          (eq-eqb (over n 1) home (over-fib n (ltb-true n 64 q))) (ap (λ (b : Bool). both b (eqb home home)) g)
-          ∙ ap (λ (w : ℕ). put2 w (lda (π .drive) (freeAt π v 0)) (v f)) (slot-direct n (ltb-true n 64 q))
-      go false q u g =
-          let e = low-many (n + 1) (omega (arith, ltb-false n 64 q)) in
-          ap₂ (λ (a b : Bool). put2If a (slot (over n 0)) (lda (π .drive) (freeAt π v 0)) (put2If b (slot (over n 1)) (lda (π .drive) (freeAt π v 1)) (v f)))
-          (ne-eqb (over n 1) home (λ z. omega (arith, z, over-pointer n (ltb-false n 64 q)))) (ap (λ (b : Bool). both b (eqb home home)) g ∙ one u)
-          ∙ on u g
-        where
-          on : (u : Bool) → grows n ≡ u → pick u (put2 (slot (over n 1)) (lda (π .drive) (freeAt π v 1)) (v f)) (v f) ≡ pick u (put2 (indirectAt (n / 128)) (lda (π .drive) (freeAt π v 1)) (v f)) (v f)
-          on true g = ap (λ (w : ℕ). put2 w (lda (π .drive) (freeAt π v 1)) (v f)) (slot-pointer n far g)
-          on false g = refl
-
-  ended-is : (x : Rec) → ended π v f n dat x ≡ put lastBlockAt n (put2 lastAddressAt (lda (π .drive) (freeAt π v 0)) x)
-  unfolding ended
-  ended-is x = refl
 
   counted-is : (z m a : ℕ) (x : Rec) → counted π z m a x ≡ put inUseAt z (put lowNumberAt m (put2 lowAddressAt (lda (π .drive) a) x))
   unfolding counted
@@ -166,6 +138,6 @@ module _ (π : Partition) (v : View) (f n : ℕ) (wf : wellFormed π v f ≡ tru
   pub body-fib : body π v f n dat home ≡ grownFib (π .drive) v f n (freeAt π v 0) (freeAt π v 1) (spot′ π v f n (low (n + 1)))
   unfolding body grownFib
   body-fib =
-      ap₂ (λ (z k : ℕ). counted π z (number k) (spot′ π v f n k) (ended π v f n dat (entered π v f n dat home (v f)))) (size-is π v f n wf next far) (least-is π v f n wf next far)
-      ∙ ap (counted π (sizeOf (n + 1)) (number (low (n + 1))) (spot′ π v f n (low (n + 1)))) (ended-is _ ∙ ap (λ (x : Rec). put lastBlockAt n (put2 lastAddressAt (lda (π .drive) (freeAt π v 0)) x)) entered-home)
+      ap₂ (λ (z k : ℕ). counted π z (number k) (spot′ π v f n k) (ended π v f n dat (entered π v f n dat home (v f)))) (size-is π v f n at) (least-is π v f n at)
+      ∙ ap (counted π (sizeOf (n + 1)) (number (low (n + 1))) (spot′ π v f n (low (n + 1)))) (ended-is π v f n dat _ ∙ ap (λ (x : Rec). put lastBlockAt n (put2 lastAddressAt A x)) entered-home)
       ∙ counted-is _ _ _ _

@@ -1,4 +1,3 @@
-pub mod Links
 pub mod Numbers
 pub mod Grown
 pub mod Bodies

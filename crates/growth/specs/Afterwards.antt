@@ -16,8 +16,8 @@ use Rattle.volume.specs.declared.Partition.{Partition}
 use Rattle.volume.specs.Index.{here-of, spot-home, present-home, wf-of, member, member-owned, key-back}
 use Rattle.volume.specs.Plans.{freeAt}
 use Rattle.volume.specs.Writes.{over, needs, isNew, fresh, present′, spot′}
-use Rattle.growth.specs.Ready.{Ready}
-use Rattle.growth.specs.Path.{or-left, or-right, or-split, over-zero, over-data, placed, needs-some, needs-more, new-at, new-gone, new-first, fresh-at, fresh-in, fresh-free, fresh-one}
+use Rattle.growth.specs.Ready.{Behind, Ready}
+use Rattle.growth.specs.Path.{never, or-left, or-right, or-split, over-zero, over-data, placed, needs-some, needs-two, new-at, new-gone, new-first, fresh-at, fresh-in, fresh-free, fresh-one}
 
 module _ (π : Partition) (v : View) (f r : ℕ) where
   -- ---- what is present, and where
@@ -49,7 +49,7 @@ module _ (π : Partition) (v : View) (f r : ℕ) where
   pub home-there : present′ π v f r home ≡ true
   home-there = present-old home (present-home π v f)
 
-  module _ (ok : Ready π v f r) where
+  module _ (ok : Behind π v f r) where
     -- ---- L: one block more
 
     pub len-more : len v f ≤ suc r
@@ -80,10 +80,10 @@ module _ (π : Partition) (v : View) (f r : ℕ) where
         data-key : home < k → r ≤ first k → present′ π v f r k ≡ true
         data-key h m =
             let e : k ≡ over r 0 = omega (arith, first-data k h, over-zero r) in
-            ap (present′ π v f r) e ∙ present-new (over r 0) (new-at π v f r ok 0 (needs-some π v f r ok))
+            ap (present′ π v f r) e ∙ present-new (over r 0) (new-at π v f r ok 0 (needs-some π v f r))
 
         pointer-key : k ≤ 288 → r ≤ first k → present′ π v f r k ≡ true
-        pointer-key h m = ap (present′ π v f r) e ∙ present-new (over r 1) (new-at π v f r ok 1 (needs-more π v f r ok (absent (present π v f (over r 1)) refl)))
+        pointer-key h m = ap (present′ π v f r) e ∙ present-new (over r 1) (new-at π v f r ok 1 (omega (arith, needs-two π v f r ok absent)))
           where
             e : k ≡ over r 1
             e = let g = first-pointer k h in let q : 64 ≤ r = omega (arith) in omega (arith, over-data r q)
@@ -91,9 +91,8 @@ module _ (π : Partition) (v : View) (f r : ℕ) where
             n : over r 1 ≢ home
             n z = omega (arith, e)
 
-            absent : (t : Bool) → present π v f (over r 1) ≡ t → t ≡ false
-            absent true q = absurd (omega (arith, here-of π v f (over r 1) n q .asked, ap first e, ok .next))
-            absent false q = refl
+            absent : present π v f (over r 1) ≡ false
+            absent = never _ (λ q. omega (arith, here-of π v f (over r 1) n q .asked, ap first e, ok .next))
 
         last : r ≤ first k → (t : Bool) → ltb home k ≡ t → (u : Bool) → ltb 288 k ≡ u → (x : Bool) → eqb k home ≡ x → present′ π v f r k ≡ true
         last m true p u q x y = data-key (ltb-true home k p) m
@@ -109,17 +108,10 @@ module _ (π : Partition) (v : View) (f r : ℕ) where
         go true q = present-old k (wf-of π v f (ok .formed) .full k (ltb-true _ _ q))
         go false q = last (omega (arith, ltb-false (first k) (len v f) q, ok .next)) (ltb home k) refl (ltb 288 k) refl (eqb k home) refl
 
-    -- ---- old keys keep their blocks, and each key has its own
+    -- ---- old keys keep their blocks, and new ones get the first free blocks
 
     pub new-old : (k : ℕ) → present π v f k ≡ true → isNew π v f r k ≡ false
-    new-old k h = go (isNew π v f r k) refl
-      where
-        go : (t : Bool) → isNew π v f r k ≡ t → t ≡ false
-        go true q = absurd (true≢false (sym h ∙ new-gone π v f r ok k q))
-        go false q = refl
-
-    pub old-owned : (k : ℕ) → present π v f k ≡ true → owned π v (spot π v f k) ≡ true
-    old-owned k p = member-owned π v f (ok .cand) (ok .formed) k p
+    new-old k h = never _ (λ q. true≢false (sym h ∙ new-gone π v f r ok k q))
 
     pub spot-is : (k : ℕ) → present π v f k ≡ true → spot′ π v f r k ≡ spot π v f k
     spot-is k p = spot-old k (new-old k p)
@@ -127,21 +119,30 @@ module _ (π : Partition) (v : View) (f r : ℕ) where
     pub spot-fib : spot′ π v f r home ≡ f
     spot-fib = spot-is home (present-home π v f) ∙ spot-home π v f
 
+    pub spot-at : (i : ℕ) → i < needs π v f r → spot′ π v f r (over r i) ≡ freeAt π v i
+    spot-at i l = spot-new (over r i) (new-at π v f r ok i l) ∙ fresh-at π v f r ok i l
+
+  -- ---- each key has its own block
+
+  module _ (ok : Ready π v f r) where
+    pub old-owned : (k : ℕ) → present π v f k ≡ true → owned π v (spot π v f k) ≡ true
+    old-owned k p = member-owned π v f (ok .cand) (ok .file .formed) k p
+
     pub spot-one : (j k : ℕ) → present′ π v f r j ≡ true → present′ π v f r k ≡ true → spot′ π v f r j ≡ spot′ π v f r k → j ≡ k
     spot-one j k a b q = go (present-split j a) (present-split k b)
       where
         go : (isNew π v f r j ≡ true) ⊎ (present π v f j ≡ true) → (isNew π v f r k ≡ true) ⊎ (present π v f k ≡ true) → j ≡ k
         go (inl x) (inl y) = fresh-one π v f r ok j k x y (sym (spot-new j x) ∙ q ∙ spot-new k y)
-        go (inl x) (inr y) = absurd (true≢false (sym (old-owned k y) ∙ ap (owned π v) (sym (spot-is k y) ∙ sym q ∙ spot-new j x) ∙ fresh-free π v f r ok j x))
-        go (inr x) (inl y) = absurd (true≢false (sym (old-owned j x) ∙ ap (owned π v) (sym (spot-is j x) ∙ q ∙ spot-new k y) ∙ fresh-free π v f r ok k y))
-        go (inr x) (inr y) = sym (key-back π v f (ok .cand) (ok .formed) j x) ∙ ap (key v) (sym (spot-is j x) ∙ q ∙ spot-is k y) ∙ key-back π v f (ok .cand) (ok .formed) k y
+        go (inl x) (inr y) = absurd (true≢false (sym (old-owned k y) ∙ ap (owned π v) (sym (spot-is (ok .file) k y) ∙ sym q ∙ spot-new j x) ∙ fresh-free π v f r ok j x))
+        go (inr x) (inl y) = absurd (true≢false (sym (old-owned j x) ∙ ap (owned π v) (sym (spot-is (ok .file) j x) ∙ q ∙ spot-new k y) ∙ fresh-free π v f r ok k y))
+        go (inr x) (inr y) = sym (key-back π v f (ok .cand) (ok .file .formed) j x) ∙ ap (key v) (sym (spot-is (ok .file) j x) ∙ q ∙ spot-is (ok .file) k y) ∙ key-back π v f (ok .cand) (ok .file .formed) k y
 
     pub spot-in : (k : ℕ) → present′ π v f r k ≡ true → inside π (spot′ π v f r k) ≡ true
     spot-in k p = go (present-split k p)
       where
         go : (isNew π v f r k ≡ true) ⊎ (present π v f k ≡ true) → inside π (spot′ π v f r k) ≡ true
         go (inl q) = ap (inside π) (spot-new k q) ∙ fresh-in π v f r ok k q
-        go (inr q) = ap (inside π) (spot-is k q) ∙ member π v f (ok .cand) (ok .formed) k q .ins
+        go (inr q) = ap (inside π) (spot-is (ok .file) k q) ∙ member π v f (ok .cand) (ok .file .formed) k q .ins
 
     -- the new first free block is none of the file's, and the PIB is none
     pub apart-first : (k : ℕ) → present′ π v f r k ≡ true → freeAt π v (needs π v f r) ≢ spot′ π v f r k
@@ -149,9 +150,9 @@ module _ (π : Partition) (v : View) (f r : ℕ) where
       where
         go : (isNew π v f r k ≡ true) ⊎ (present π v f k ≡ true) → ⊥
         go (inl q) =
-            let x = placed π v f r ok k q in
-            ok .apart (x .i) (needs π v f r) (x .less) (omega arith) (sym (fresh-at π v f r ok (x .i) (x .less)) ∙ ap (fresh π v f r) (sym (x .is)) ∙ sym (spot-new k q) ∙ sym z)
-        go (inr q) = true≢false (sym (old-owned k q) ∙ ap (owned π v) (sym (spot-is k q) ∙ sym z) ∙ ok .room (needs π v f r) (omega arith) .1)
+            let x = placed π v f r (ok .file) k q in
+            ok .apart (x .i) (needs π v f r) (x .less) (omega arith) (sym (spot-at (ok .file) (x .i) (x .less)) ∙ ap (spot′ π v f r) (sym (x .is)) ∙ sym z)
+        go (inr q) = true≢false (sym (old-owned k q) ∙ ap (owned π v) (sym (spot-is (ok .file) k q) ∙ sym z) ∙ ok .room (needs π v f r) (omega arith) .1)
 
     pub apart-pib : (k : ℕ) → present′ π v f r k ≡ true → π .s ≢ spot′ π v f r k
     unfolding inside

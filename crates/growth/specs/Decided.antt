@@ -22,7 +22,7 @@ use Rattle.frame.specs.Reading.{put-off, put2-off}
 use Rattle.frame.specs.Sound.{some-free}
 use Rattle.frame.specs.Decides.{Good}
 use Rattle.growth.specs.Ready.{Tails, Ready}
-use Rattle.growth.specs.Path.{held}
+use Rattle.growth.specs.Path.{never, held}
 use Rattle.growth.specs.Lists.{All, mem, all-map, all-append, mem-left, mem-right, mem-here, keyed}
 use Rattle.growth.specs.Afterwards.{present-new, present-old, present-split, home-there, spot-fib, spot-one, apart-first, apart-pib}
 use Rattle.growth.specs.Written.{Written, written-present, written-spot, written-formed}
@@ -97,11 +97,7 @@ module _ (π : Partition) (v : View) (f r : ℕ) (dat : Rec) (ok : Ready π v f 
     each k p false q = inr (record { same = x .is k p ∙ ap (λ (t : Bool). pick t (grown π v f r dat k) (v (spot′ π v f r k))) q; old = old; over-it = nb .0; under-it = nb .1 })
       where
         out : mem k fr ≡ false
-        out = go (mem k fr) refl
-          where
-            go : (t : Bool) → mem k fr ≡ t → t ≡ false
-            go true m = absurd (true≢false (sym (mem-left k fr (home ∷ []) m) ∙ q))
-            go false m = refl
+        out = never _ (λ m. true≢false (sym (mem-left k fr (home ∷ []) m) ∙ q))
 
         old : present π v f k ≡ true
         old = go (present-split π v f r k p)
@@ -118,12 +114,12 @@ module _ (π : Partition) (v : View) (f r : ℕ) (dat : Rec) (ok : Ready π v f 
       each = λ k p. each k p (mem k keys) refl;
       news = λ k h. has k (present-new π v f r k h) (mem-left k fr (home ∷ []) (o .news k h));
       gain = gain (eqb (over r (needs π v f r)) home) refl;
-      fib = ap W (sym (spot-fib π v f r ok)) ∙ has home (home-there π v f r) home-has;
+      fib = ap W (sym (spot-fib π v f r (ok .file))) ∙ has home (home-there π v f r) home-has;
     }
       where
         gain : (t : Bool) → eqb (over r (needs π v f r)) home ≡ t → W (spot′ π v f r (over r (needs π v f r))) ≡ grown π v f r dat (over r (needs π v f r))
         gain true q = subst (λ (j : ℕ). W (spot′ π v f r j) ≡ grown π v f r dat j) (sym (eqb-true _ _ q)) (has home (home-there π v f r) home-has)
-        gain false q = has _ (present-old π v f r _ (held π v f r ok)) (mem-left _ fr (home ∷ []) (o .gain (eqb-false _ _ q)))
+        gain false q = has _ (present-old π v f r _ (held π v f r (ok .file))) (mem-left _ fr (home ∷ []) (o .gain (eqb-false _ _ q)))
 
   pub done-decided : Done π v f r dat ok decided
   done-decided = done decided stored-decided

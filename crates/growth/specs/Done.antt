@@ -15,7 +15,7 @@ use Rattle.volume.specs.Frame.{SameHead, head-of, head-trans}
 use Rattle.volume.specs.Writes.{over, needs, isNew, fresh, present′, spot′, above′, below′, least′, grown}
 use Rattle.frame.specs.Reading.{two}
 use Rattle.growth.specs.Ready.{Ready}
-use Rattle.growth.specs.Path.{placed, new-at, new-holder, needs-some}
+use Rattle.growth.specs.Path.{placed, new-at, over-up, needs-some}
 use Rattle.growth.specs.Afterwards.{present-old, present-not, spot-new, spot-old, new-old, spot-is}
 use Rattle.growth.specs.Written.{Written}
 use Rattle.growth.specs.Grown.{grown-head, grown-entry, grown-data, base-old, base-entry, new-serial, new-number, new-data, fib-length, fib-last, fib-size, fib-low, fib-address, fib-kept}
@@ -39,14 +39,14 @@ module _ (π : Partition) (v : View) (f r : ℕ) (dat : Rec) (ok : Ready π v f 
   module _ (W : View) (d : Done W) where
     -- old blocks keep their headers
     old : (k : ℕ) → present π v f k ≡ true → SameHead (v (spot π v f k)) (W (spot π v f k))
-    old k p = subst (λ (b : ℕ). SameHead (v (spot π v f k)) (W b)) (spot-is π v f r ok k p) (go (d .each k (present-old π v f r k p)))
+    old k p = subst (λ (b : ℕ). SameHead (v (spot π v f k)) (W b)) (spot-is π v f r (ok .file) k p) (go (d .each k (present-old π v f r k p)))
       where
         low : (w : ℕ) → w < 4 → v (spot π v f k) w ≡ grown π v f r dat k w
-        low w l = sym (grown-head π v f r dat ok k w l ∙ ap (λ (x : Rec). x w) (base-old π v f r dat ok k (new-old π v f r ok k p)))
+        low w l = sym (grown-head π v f r dat (ok .file) k w l ∙ ap (λ (x : Rec). x w) (base-old π v f r dat k (new-old π v f r (ok .file) k p)))
 
         go : (W (spot′ π v f r k) ≡ grown π v f r dat k) ⊎ Left W k → SameHead (v (spot π v f k)) (W (spot′ π v f r k))
         go (inl q) = head-trans (record { low = low 0 (omega arith); high = low 1 (omega arith); rel = low 2 (omega arith) }) (head-of (sym q))
-        go (inr q) = head-of (ap v (sym (spot-is π v f r ok k p)) ∙ sym (q .same))
+        go (inr q) = head-of (ap v (sym (spot-is π v f r (ok .file) k p)) ∙ sym (q .same))
 
     fresh-rec : (k : ℕ) → isNew π v f r k ≡ true → W (fresh π v f r k) ≡ grown π v f r dat k
     fresh-rec k h = ap W (sym (spot-new π v f r k h)) ∙ d .news k h
@@ -59,13 +59,13 @@ module _ (π : Partition) (v : View) (f r : ℕ) (dat : Rec) (ok : Ready π v f 
         stored : W (spot′ π v f r (up k)) ≡ grown π v f r dat (up k)
             → pair W (spot′ π v f r (up k)) (slot k) ≡ pick (isNew π v f r k) (lda (π .drive) (fresh π v f r k)) (pick (isNew π v f r (up k)) 0 (entry π v f k))
         stored q =
-            ap (λ (x : Rec). two x (slot k)) q ∙ grown-entry π v f r dat ok k n a b
-            ∙ ap (pick (isNew π v f r k) (lda (π .drive) (fresh π v f r k))) (base-entry π v f r dat ok k)
+            ap (λ (x : Rec). two x (slot k)) q ∙ grown-entry π v f r dat (ok .file) k n a b
+            ∙ ap (pick (isNew π v f r k) (lda (π .drive) (fresh π v f r k))) (base-entry π v f r dat k)
 
         gaining : isNew π v f r k ≡ true → isNew π v f r (up k) ≡ false → up k ≡ over r (needs π v f r)
         gaining h q =
-            let x = placed π v f r ok k h in
-            let e = ap up (x .is) ∙ new-holder π v f r ok (x .i) (x .less) in
+            let x = placed π v f r (ok .file) k h in
+            let e = ap up (x .is) ∙ over-up r (x .i) in
             let old = sym (present-not π v f r (up k) q) ∙ p in
             e ∙ ap (over r) (gains-is π v f r dat ok (x .i) (x .less) (ap (present π v f) (sym e) ∙ old))
 
@@ -84,31 +84,31 @@ module _ (π : Partition) (v : View) (f r : ℕ) (dat : Rec) (ok : Ready π v f 
 
     length-is : len W f ≡ suc r
     unfolding len
-    length-is = ap (λ (x : Rec). (x 258 + 1) % 65536) (d .fib) ∙ ap (λ (x : ℕ). (x + 1) % 65536) (fib-length π v f r dat ok) ∙ omega (arith, ok .far)
+    length-is = ap (λ (x : Rec). (x 258 + 1) % 65536) (d .fib) ∙ ap (λ (x : ℕ). (x + 1) % 65536) (fib-length π v f r dat) ∙ omega (arith, ok .file .far)
 
     pub done-written : Written π v f r W
     done-written = record {
       old = old;
-      new = λ k h. (ap (λ (x : Rec). two x 0) (fresh-rec k h) ∙ new-serial π v f r dat ok k h, ap (λ (x : Rec). x 2) (fresh-rec k h) ∙ new-number π v f r dat ok k h);
+      new = λ k h. (ap (λ (x : Rec). two x 0) (fresh-rec k h) ∙ new-serial π v f r dat (ok .file) k h, ap (λ (x : Rec). x 2) (fresh-rec k h) ∙ new-number π v f r dat (ok .file) k h);
       entries = entries;
       length = length-is;
-      last = ap (λ (x : Rec). two x 259) (d .fib) ∙ fib-last π v f r dat ok;
-      used = ap (λ (x : Rec). x 257) (d .fib) ∙ fib-size π v f r dat ok;
-      lowest = ap (λ (x : Rec). x 261) (d .fib) ∙ fib-low π v f r dat ok;
-      lowAt = ap (λ (x : Rec). isLda (π .drive) (two x 262) (spot′ π v f r (least′ π v f r))) (d .fib) ∙ fib-address π v f r dat ok;
+      last = ap (λ (x : Rec). two x 259) (d .fib) ∙ fib-last π v f r dat;
+      used = ap (λ (x : Rec). x 257) (d .fib) ∙ fib-size π v f r dat;
+      lowest = ap (λ (x : Rec). x 261) (d .fib) ∙ fib-low π v f r dat;
+      lowAt = ap (λ (x : Rec). isLda (π .drive) (two x 262) (spot′ π v f r (least′ π v f r))) (d .fib) ∙ fib-address π v f r dat;
     }
 
     -- ---- bytes
 
     pub done-data : (w : ℕ) → 8 ≤ w → W (spot′ π v f r (over r 0)) w ≡ dat (w - 8)
-    done-data w l = let h = new-at π v f r ok 0 (needs-some π v f r ok) in ap (λ (x : Rec). x w) (d .news (over r 0) h) ∙ new-data π v f r dat ok w h l
+    done-data w l = let h = new-at π v f r (ok .file) 0 (needs-some π v f r) in ap (λ (x : Rec). x w) (d .news (over r 0) h) ∙ new-data π v f r dat w h l
 
     pub done-bytes : (k : ℕ) → home < k → present π v f k ≡ true → (w : ℕ) → 8 ≤ w → W (spot π v f k) w ≡ v (spot π v f k) w
-    done-bytes k h p w l = subst (λ (b : ℕ). W b w ≡ v b w) (spot-is π v f r ok k p) (go (d .each k (present-old π v f r k p)))
+    done-bytes k h p w l = subst (λ (b : ℕ). W b w ≡ v b w) (spot-is π v f r (ok .file) k p) (go (d .each k (present-old π v f r k p)))
       where
         go : (W (spot′ π v f r k) ≡ grown π v f r dat k) ⊎ Left W k → W (spot′ π v f r k) w ≡ v (spot′ π v f r k) w
-        go (inl q) = ap (λ (x : Rec). x w) q ∙ grown-data π v f r dat ok k h (new-old π v f r ok k p) w l ∙ ap (λ (b : ℕ). v b w) (sym (spot-is π v f r ok k p))
+        go (inl q) = ap (λ (x : Rec). x w) q ∙ grown-data π v f r dat k h (new-old π v f r (ok .file) k p) w l ∙ ap (λ (b : ℕ). v b w) (sym (spot-is π v f r (ok .file) k p))
         go (inr q) = ap (λ (x : Rec). x w) (q .same)
 
     pub done-text : (w : ℕ) → 8 ≤ w → (w < 60) ⊎ (w ≡ 256) → W f w ≡ v f w
-    done-text w l s = ap (λ (x : Rec). x w) (d .fib) ∙ fib-kept π v f r dat ok w l s
+    done-text w l s = ap (λ (x : Rec). x w) (d .fib) ∙ fib-kept π v f r dat (ok .file) w l s

@@ -18,7 +18,7 @@ use Rattle.volume.specs.Index.{present-home, wf-of}
 use Rattle.volume.specs.Order.{least-is, least-present}
 use Rattle.volume.specs.Writes.{over, inner, needs, isNew, above′, below′, early}
 use Rattle.growth.specs.Ready.{Ready}
-use Rattle.growth.specs.Path.{over-zero, over-up, over-near, needs-some, needs-few, held, new-at, new-absent, new-inner}
+use Rattle.growth.specs.Path.{over-zero, over-up, over-two, needs-some, needs-few, held, new-at, new-absent, new-inner}
 use Rattle.growth.specs.Lists.{All, mem, Distinct, all-pick, all-map, mem-here, mem-later}
 use Rattle.growth.specs.Neighbours.{new-cases, last-new, above-kept, below-kept}
 use Rattle.growth.specs.Before.{Early, Order}
@@ -81,20 +81,20 @@ module _ (π : Partition) (v : View) (f r : ℕ) where
 
   module _ (ok : Ready π v f r) where
     last-there : present π v f (end v f) ≡ true
-    last-there = wf-of π v f (ok .formed) .ends
+    last-there = wf-of π v f (ok .file .formed) .ends
 
     least-there : present π v f (least π v f) ≡ true
-    least-there = least-present π v f (ok .formed) .1
+    least-there = least-present π v f (ok .file .formed) .1
 
     -- the pointer block over r is new, or present
     over-cases : ((needs π v f r ≡ 2) × (isNew π v f r (over r 1) ≡ true)) ⊎ ((needs π v f r ≡ 1) × (present π v f (over r 1) ≡ true))
     over-cases = go (ltb 1 (needs π v f r)) refl
       where
         go : (t : Bool) → ltb 1 (needs π v f r) ≡ t → ((needs π v f r ≡ 2) × (isNew π v f r (over r 1) ≡ true)) ⊎ ((needs π v f r ≡ 1) × (present π v f (over r 1) ≡ true))
-        go true q = let l = ltb-true 1 (needs π v f r) q in inl (omega (arith, needs-few π v f r ok), new-at π v f r ok 1 l)
+        go true q = let l = ltb-true 1 (needs π v f r) q in inl (omega (arith, needs-few π v f r (ok .file)), new-at π v f r (ok .file) 1 l)
         go false q =
-            let e : needs π v f r ≡ 1 = omega (arith, ltb-false 1 (needs π v f r) q, needs-some π v f r ok) in
-            inr (e, ap (λ (n : ℕ). present π v f (over r n)) (sym e) ∙ held π v f r ok)
+            let e : needs π v f r ≡ 1 = omega (arith, ltb-false 1 (needs π v f r) q, needs-some π v f r) in
+            inr (e, ap (λ (n : ℕ). present π v f (over r n)) (sym e) ∙ held π v f r (ok .file))
 
     -- ---- each once
 
@@ -105,7 +105,7 @@ module _ (π : Partition) (v : View) (f r : ℕ) where
     least-low = go (ltb home (least π v f)) refl
       where
         go : (t : Bool) → ltb home (least π v f) ≡ t → least π v f ≤ home
-        go true q = absurd (true≢false (sym (present-home π v f) ∙ least-is π v f (ok .formed) .none home (omega arith) (λ _. ltb-true _ _ q)))
+        go true q = absurd (true≢false (sym (present-home π v f) ∙ least-is π v f (ok .file .formed) .none home (omega arith) (λ _. ltb-true _ _ q)))
         go false q = ltb-false home (least π v f) q
 
     pub early-once : Distinct (early π v f r)
@@ -113,14 +113,14 @@ module _ (π : Partition) (v : View) (f r : ℕ) where
     early-once = (all-inner (λ y. over r 0 ≢ y) others (all-map (λ k. k < over r 0) _ (λ k l _ z. omega arith) others below-r), distinct-inner others apart)
       where
         below-r : All (λ k. k < over r 0) others
-        below-r = (omega (arith, over-low, over-zero r), (last-new π v f r ok (end v f) last-there, all-pick (λ k. k < over r 0) (leb 2 (needs π v f r)) _ _ (λ _. (last-new π v f r ok (least π v f) least-there, tt)) (λ _. tt)))
+        below-r = (omega (arith, over-low, over-zero r), (last-new π v f r (ok .file) (end v f) last-there, all-pick (λ k. k < over r 0) (leb 2 (needs π v f r)) _ _ (λ _. (last-new π v f r (ok .file) (least π v f) least-there, tt)) (λ _. tt)))
 
         apart : Apart others
         apart = (
           (λ n. (
             (λ m z. omega (arith, over-low, n)),
             all-pick (λ y. y ≢ home → over r 1 ≢ y) (leb 2 (needs π v f r)) _ _
-                (λ q. ((λ m z. true≢false (sym least-there ∙ ap (present π v f) (sym z) ∙ new-absent π v f r ok 1 (leb-true _ _ q))), tt)) (λ _. tt),
+                (λ q. ((λ m z. true≢false (sym least-there ∙ ap (present π v f) (sym z) ∙ new-absent π v f r (ok .file) 1 (leb-true _ _ q))), tt)) (λ _. tt),
           )),
           (
             (λ n. all-pick (λ y. y ≢ home → end v f ≢ y) (leb 2 (needs π v f r)) _ _ (λ _. ((λ m z. omega (arith, least-low, n, m, z)), tt)) (λ _. tt)),
@@ -138,7 +138,7 @@ module _ (π : Partition) (v : View) (f r : ℕ) where
       all-early : All (Early π v f r dat ok) (early π v f r)
       unfolding early
       all-early = (
-        inl (new-at π v f r ok 0 (needs-some π v f r ok)),
+        inl (new-at π v f r (ok .file) 0 (needs-some π v f r)),
         all-inner (Early π v f r dat ok) others (
           (λ n. pointer n over-cases),
           ((λ n. inr (last-there, n)), all-pick (λ k. k ≢ home → Early π v f r dat ok k) (leb 2 (needs π v f r)) _ _ (λ _. ((λ n. inr (least-there, n)), tt)) (λ _. tt)),
@@ -159,21 +159,21 @@ module _ (π : Partition) (v : View) (f r : ℕ) where
 
       news : (k : ℕ) → isNew π v f r k ≡ true → mem k (early π v f r) ≡ true
       unfolding early
-      news k h = go (new-cases π v f r ok k h)
+      news k h = go (new-cases π v f r (ok .file) k h)
         where
           go : (k ≡ over r 0) ⊎ ((needs π v f r ≡ 2) × (k ≡ over r 1)) → mem k (over r 0 ∷ inner others) ≡ true
           go (inl q) = subst (λ (j : ℕ). mem j (over r 0 ∷ inner others) ≡ true) (sym q) (mem-here (over r 0) (inner others))
-          go (inr q) = subst (λ (j : ℕ). mem j (over r 0 ∷ inner others) ≡ true) (sym (q .1)) (over-has (λ z. new-inner π v f r ok k h (q .1 ∙ z)))
+          go (inr q) = subst (λ (j : ℕ). mem j (over r 0 ∷ inner others) ≡ true) (sym (q .1)) (over-has (λ z. new-inner π v f r (ok .file) k h (q .1 ∙ z)))
 
       gain : over r (needs π v f r) ≢ home → mem (over r (needs π v f r)) (early π v f r) ≡ true
       gain n = go over-cases
         where
           go : ((needs π v f r ≡ 2) × (isNew π v f r (over r 1) ≡ true)) ⊎ ((needs π v f r ≡ 1) × (present π v f (over r 1) ≡ true)) → mem (over r (needs π v f r)) (early π v f r) ≡ true
-          go (inl x) = absurd (n (ap (over r) (x .0) ∙ over-near r (ok .far) (new-inner π v f r ok (over r 1) (x .1)) .1 .1))
+          go (inl x) = absurd (n (ap (over r) (x .0) ∙ over-two r (ok .file .far)))
           go (inr x) = subst (λ (i : ℕ). mem (over r i) (early π v f r) ≡ true) (sym (x .0)) (over-has (λ z. n (ap (over r) (x .0) ∙ z)))
 
       near : (k : ℕ) → present π v f k ≡ true → k ≢ home → mem k (early π v f r) ≡ false → (above′ π v f r k ≡ above π v f k) × (below′ π v f r k ≡ below π v f k)
-      near k p n out = (above-kept π v f r ok k p (λ z. no (end-has k z)), below-kept π v f r ok k p (λ q z. no (least-has k q z)))
+      near k p n out = (above-kept π v f r (ok .file) k p (λ z. no (end-has k z)), below-kept π v f r (ok .file) k p (λ q z. no (least-has k q z)))
         where
           no : mem k others ≡ true → ⊥
           no h = true≢false (sym (other-has k n h) ∙ out)

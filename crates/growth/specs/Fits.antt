@@ -55,7 +55,7 @@ module _ (π : Partition) (v : View) (f r : ℕ) (dat : Rec) (ok : Ready π v f 
 
   size-small : size′ π v f r < 65536
   unfolding size′
-  size-small = omega (arith, count-both (span (suc r)) (λ i. present′ π v f r (low (suc r) + i)), span-end (suc r), len-short π v f r ok)
+  size-small = omega (arith, count-both (span (suc r)) (λ i. present′ π v f r (low (suc r) + i)), span-end (suc r), len-short π v f r (ok .file))
 
   address-small : (a b : ℕ) → a < 4294967296 → b < 69552 → address (π .drive) a b < 4294967296
   unfolding address
@@ -75,13 +75,13 @@ module _ (π : Partition) (v : View) (f r : ℕ) (dat : Rec) (ok : Ready π v f 
 
   ended-fits : {x : Rec} → Fits x → Fits (ended π v f r dat x)
   unfolding ended
-  ended-fits h = put-fits 258 r (omega arith) (omega (arith, ok .far)) (put2-fits 259 _ (omega arith) (lda-small (π .drive) _ (free-few 0 (omega arith))) h)
+  ended-fits h = put-fits 258 r (omega arith) (omega (arith, ok .file .far)) (put2-fits 259 _ (omega arith) (lda-small (π .drive) _ (free-few 0 (omega arith))) h)
 
   counted-fits : {x : Rec} → Fits x → Fits (counted π (size′ π v f r) (number (least′ π v f r)) (spot′ π v f r (least′ π v f r)) x)
   unfolding counted
   counted-fits {x} h =
       put-fits 257 _ (omega arith) size-small (put-fits 261 _ (omega arith) (number-small (least′ π v f r))
-      (put2-fits 262 _ (omega arith) (address-small _ _ (omega (arith, h .small 262, h .small 263)) (inside-few _ (spot-in π v f r ok _ (least′-there π v f r ok .1)))) h))
+      (put2-fits 262 _ (omega arith) (address-small _ _ (omega (arith, h .small 262, h .small 263)) (inside-few _ (spot-in π v f r ok _ (least′-there π v f r (ok .file) .1)))) h))
 
   module _ (vf : (b : ℕ) → Fits (v b)) (df : Words 256 dat) where
     empty-fits : (k : ℕ) → Fits (empty π v f r dat k)
@@ -110,5 +110,5 @@ module _ (π : Partition) (v : View) (f r : ℕ) (dat : Rec) (ok : Ready π v f 
     pub record-fits : (k : ℕ) → Fits (grown π v f r dat k)
     unfolding grown
     record-fits k =
-        put2-fits 4 _ (omega arith) (link-small (above′ π v f r k) (λ n. above′-is π v f r ok k .hit n .0))
-        (put2-fits 6 _ (omega arith) (link-small (below′ π v f r k) (λ n. below′-is π v f r ok k .hit n .0)) (body-fits k))
+        put2-fits 4 _ (omega arith) (link-small (above′ π v f r k) (λ n. above′-is π v f r (ok .file) k .hit n .0))
+        (put2-fits 6 _ (omega arith) (link-small (below′ π v f r k) (λ n. below′-is π v f r (ok .file) k .hit n .0)) (body-fits k))

@@ -21,7 +21,7 @@ use Rattle.volume.specs.Writes.{isNew, fresh, present′, spot′, above′, be
 use Rattle.frame.specs.Reading.{two}
 use Rattle.frame.specs.FreeChain.{Links}
 use Rattle.growth.specs.Ready.{Tails, Ready}
-use Rattle.growth.specs.Path.{new-first}
+use Rattle.growth.specs.Path.{never, new-first}
 use Rattle.growth.specs.Afterwards.{present-not, len-more, spot-is}
 use Rattle.growth.specs.Written.{Written, written-present, written-spot, written-above, written-below, written-formed}
 use Rattle.growth.specs.Grown.{grown-next, grown-prev}
@@ -43,7 +43,7 @@ module _ (π : Partition) (v : View) (f r : ℕ) (dat : Rec) (ok : Ready π v f 
 
   link-old : (j : ℕ) → (j ≢ 0 → present π v f j ≡ true) → link π v f j ≡ link′ π v f r j
   unfolding link link′
-  link-old j h = pick-same (eqb j 0) (λ _. refl) (λ q. ap (pda (π .drive)) (sym (spot-is π v f r ok j (h (eqb-false j 0 q)))))
+  link-old j h = pick-same (eqb j 0) (λ _. refl) (λ q. ap (pda (π .drive)) (sym (spot-is π v f r (ok .file) j (h (eqb-false j 0 q)))))
 
   module _ (old : Links π v f) where
     next-is : (k : ℕ) → present π W f k ≡ true → pair W (spot π W f k) nextAt ≡ link π W f (above π W f k)
@@ -52,10 +52,10 @@ module _ (π : Partition) (v : View) (f r : ℕ) (dat : Rec) (ok : Ready π v f 
         ∙ sym (link-same (above π W f k) (λ n. above-is π W f wf k (present-high π W f k p) .hit n .0))
       where
         go : (W (spot′ π v f r k) ≡ grown π v f r dat k) ⊎ Left π v f r dat ok W k → pair W (spot′ π v f r k) nextAt ≡ link′ π v f r (above′ π v f r k)
-        go (inl a) = ap (λ (x : Rec). two x nextAt) a ∙ grown-next π v f r dat ok k
+        go (inl a) = ap (λ (x : Rec). two x nextAt) a ∙ grown-next π v f r dat k
         go (inr a) =
-            ap (λ (x : Rec). two x nextAt) (a .same) ∙ ap (λ (b : ℕ). pair v b nextAt) (spot-is π v f r ok k (a .old)) ∙ old .next k (a .old)
-            ∙ link-old (above π v f k) (λ n. above-is π v f (ok .formed) k (present-high π v f k (a .old)) .hit n .0)
+            ap (λ (x : Rec). two x nextAt) (a .same) ∙ ap (λ (b : ℕ). pair v b nextAt) (spot-is π v f r (ok .file) k (a .old)) ∙ old .next k (a .old)
+            ∙ link-old (above π v f k) (λ n. above-is π v f (ok .file .formed) k (present-high π v f k (a .old)) .hit n .0)
             ∙ ap (link′ π v f r) (sym (a .over-it))
 
     prev-is : (k : ℕ) → present π W f k ≡ true → pair W (spot π W f k) previousAt ≡ link π W f (below π W f k)
@@ -64,10 +64,10 @@ module _ (π : Partition) (v : View) (f r : ℕ) (dat : Rec) (ok : Ready π v f 
         ∙ sym (link-same (below π W f k) (λ n. below-is π W f wf k (present-low π W f k p) .hit n .0))
       where
         go : (W (spot′ π v f r k) ≡ grown π v f r dat k) ⊎ Left π v f r dat ok W k → pair W (spot′ π v f r k) previousAt ≡ link′ π v f r (below′ π v f r k)
-        go (inl a) = ap (λ (x : Rec). two x previousAt) a ∙ grown-prev π v f r dat ok k
+        go (inl a) = ap (λ (x : Rec). two x previousAt) a ∙ grown-prev π v f r dat k
         go (inr a) =
-            ap (λ (x : Rec). two x previousAt) (a .same) ∙ ap (λ (b : ℕ). pair v b previousAt) (spot-is π v f r ok k (a .old)) ∙ old .prev k (a .old)
-            ∙ link-old (below π v f k) (λ n. below-is π v f (ok .formed) k (present-low π v f k (a .old)) .hit n .0)
+            ap (λ (x : Rec). two x previousAt) (a .same) ∙ ap (λ (b : ℕ). pair v b previousAt) (spot-is π v f r (ok .file) k (a .old)) ∙ old .prev k (a .old)
+            ∙ link-old (below π v f k) (λ n. below-is π v f (ok .file .formed) k (present-low π v f k (a .old)) .hit n .0)
             ∙ ap (link′ π v f r) (sym (a .under-it))
 
     tail-is : (k i : ℕ) → k < home → present π W f k ≡ true → i < 128 → len W f ≤ first (child k (slotAt i)) → pair W (spot π W f k) (slotAt i) ≡ 0
@@ -90,15 +90,11 @@ module _ (π : Partition) (v : View) (f r : ℕ) (dat : Rec) (ok : Ready π v f 
         more = subst (λ (x : ℕ). x ≤ first (child k (slotAt i))) (w .length) h
 
         not-new : isNew π v f r (child k (slotAt i)) ≡ false
-        not-new = go (isNew π v f r (child k (slotAt i))) refl
-          where
-            go : (t : Bool) → isNew π v f r (child k (slotAt i)) ≡ t → t ≡ false
-            go true z = absurd (omega (arith, new-first π v f r ok _ z, more))
-            go false z = refl
+        not-new = never _ (λ z. omega (arith, new-first π v f r (ok .file) _ z, more))
 
         go : (t : Bool) → isNew π v f r (up (child k (slotAt i))) ≡ t → pick t 0 (entry π v f (child k (slotAt i))) ≡ 0
         go true z = refl
-        go false z = tails _ n (a .1 .0) (a .1 .1) (sym (present-not π v f r _ z) ∙ held) (omega (arith, more, len-more π v f r ok))
+        go false z = tails _ n (a .1 .0) (a .1 .1) (sym (present-not π v f r _ z) ∙ held) (omega (arith, more, len-more π v f r (ok .file)))
 
     pub file-links : Links π W f
     file-links = record { next = next-is; prev = prev-is; tail = tail-is }

@@ -1,55 +1,44 @@
 -- Link order after a write: what above, below and least find. Block r comes behind the old last block and a new pointer block before all others; every other block keeps its neighbours.
-use mathlib.Core.Path.{_≡_, refl, sym, ap, _∙_}
-use mathlib.Core.Logic.{_⊎_, inl, inr, _≢_}
+use mathlib.Core.Path.{_≡_, sym, ap, _∙_}
+use mathlib.Core.Logic.{_⊎_, inl, inr, ⊎-elim, _≢_}
 use mathlib.Core.Bool.{Bool, true, false, true≢false}
-use Prim.Native.Nat.{ℕ, zero, suc, _+_, _-_, _/_, _≤_, _<_}
+use Prim.Native.Nat.{ℕ, zero, suc, _+_, _-_, _≤_, _<_}
 use native.Mathlib.Omega.{arith}
-use lib.Dec.{ltb}
-use borrow.Author.Tests.{ltb-true, ltb-false}
 use Rattle.image.specs.View.{View}
 use Rattle.volume.specs.Search.{seek, down, Least, Greatest, seek-least, down-greatest}
 use Rattle.volume.specs.Keys.{home, low, span}
-use Rattle.volume.specs.KeyLaws.{low-pos, span-end, first-pointer}
+use Rattle.volume.specs.KeyLaws.{low-pos, span-end}
 use Rattle.volume.specs.Files.{len, present, above, below, least}
 use Rattle.volume.specs.declared.Partition.{Partition}
-use Rattle.volume.specs.Index.{present-low, present-high, present-pos, wf-of}
+use Rattle.volume.specs.Index.{present-low, present-high, wf-of}
 use Rattle.volume.specs.Order.{Next, Prev, next-one, prev-one, above-is, below-is, least-is, least-present}
 use Rattle.volume.specs.Writes.{over, needs, isNew, present′, above′, below′, least′}
-use Rattle.growth.specs.Ready.{Ready}
-use Rattle.growth.specs.Path.{over-zero, over-near, placed, needs-few, new-absent, new-not-home}
-use Rattle.growth.specs.Afterwards.{present-old, present-split, asked′, len-short, range′, home-there}
+use Rattle.growth.specs.Ready.{Behind}
+use Rattle.growth.specs.Path.{never, over-zero, over-least, placed, needs-few, new-absent}
+use Rattle.growth.specs.Afterwards.{present-old, present-not, len-short, range′, home-there}
 
 -- ---- a search over all numbers that may pass
 
 module _ (P : ℕ → Bool) (a e : ℕ) (pos : 0 < a) (inn : (i : ℕ) → P i ≡ true → (a ≤ i) × (i ≤ e)) where
-  out : (i : ℕ) → (P i ≡ true → ⊥) → P i ≡ false
-  out i n = go (P i) refl
-    where
-      go : (t : Bool) → P i ≡ t → t ≡ false
-      go true q = absurd (n q)
-      go false q = refl
-
   pub seek-next : (k n : ℕ) → e < suc k + n → Next P k (seek n (suc k) P)
-  seek-next k n l = record { hit = λ m. (s .hit m .0, s .hit m .1 .0); none = λ i a m. at i a m (ltb e i) refl }
+  seek-next k n l = record { hit = λ m. (s .hit m .0, s .hit m .1 .0); none = λ i b m. never _ (λ p. true≢false (sym p ∙ s .none i b (omega (arith, inn i p .1)) m)) }
     where
       s : Least P (suc k) (suc k + n) (seek n (suc k) P)
       s = seek-least n (suc k) P (omega arith)
 
-      at : (i : ℕ) → k < i → (seek n (suc k) P ≢ 0 → i < seek n (suc k) P) → (t : Bool) → ltb e i ≡ t → P i ≡ false
-      at i a m true q = out i (λ p. omega (arith, ltb-true e i q, inn i p .1))
-      at i a m false q = s .none i a (omega (arith, ltb-false e i q)) m
+  pub seek-first : (n : ℕ) → e < a + n → Next P 0 (seek n a P)
+  seek-first n l = record { hit = λ m. (s .hit m .0, omega (arith, s .hit m .1 .0)); none = λ i b m. never _ (λ p. true≢false (sym p ∙ s .none i (inn i p .0) (omega (arith, inn i p .1)) m)) }
+    where
+      s : Least P a (a + n) (seek n a P)
+      s = seek-least n a P pos
 
   pub down-prev : (k : ℕ) → Prev P k (down a (k - a) P)
-  down-prev k = record { hit = λ m. (s .hit m .0, omega (arith, s .hit m .1)); none = λ i p l m. at i l m (ltb i a) refl }
+  down-prev k = record { hit = λ m. (s .hit m .0, omega (arith, s .hit m .1)); none = λ i b l m. never _ (λ p. true≢false (sym p ∙ s .none i (inn i p .0) (omega (arith, inn i p .0)) m)) }
     where
       s : Greatest P a (a + (k - a)) (down a (k - a) P)
       s = down-greatest a (k - a) P pos
 
-      at : (i : ℕ) → i < k → (down a (k - a) P ≢ 0 → down a (k - a) P < i) → (t : Bool) → ltb i a ≡ t → P i ≡ false
-      at i l m true q = out i (λ p. omega (arith, ltb-true i a q, inn i p .0))
-      at i l m false q = let b = ltb-false i a q in s .none i b (omega arith) m
-
-module _ (π : Partition) (v : View) (f r : ℕ) (ok : Ready π v f r) where
+module _ (π : Partition) (v : View) (f r : ℕ) (ok : Behind π v f r) where
   abbrev P : ℕ → Bool
   P = present′ π v f r
 
@@ -67,14 +56,7 @@ module _ (π : Partition) (v : View) (f r : ℕ) (ok : Ready π v f r) where
 
   pub least′-is : Next (present′ π v f r) 0 (least′ π v f r)
   unfolding least′
-  least′-is = record { hit = λ n. (s .hit n .0, omega (arith, s .hit n .1 .0, pos′)); none = λ i a m. at i m (P i) refl }
-    where
-      s : Least P (low (suc r)) (low (suc r) + span (suc r)) (seek (span (suc r)) (low (suc r)) P)
-      s = seek-least (span (suc r)) (low (suc r)) P pos′
-
-      at : (i : ℕ) → (seek (span (suc r)) (low (suc r)) P ≢ 0 → i < seek (span (suc r)) (low (suc r)) P) → (t : Bool) → P i ≡ t → t ≡ false
-      at i m false q = refl
-      at i m true q = let b = range′ π v f r ok i q in sym q ∙ s .none i (b .0) (omega (arith, b .1, span-end (suc r))) m
+  least′-is = seek-first P (low (suc r)) (home + suc r) pos′ (range′ π v f r ok) (span (suc r)) (omega (arith, span-end (suc r)))
 
   pub least′-there : (least′ π v f r ≢ 0) × (present′ π v f r (least′ π v f r) ≡ true)
   least′-there = (ne, least′-is .hit ne .0)
@@ -93,41 +75,22 @@ module _ (π : Partition) (v : View) (f r : ℕ) (ok : Ready π v f r) where
       go (suc zero) l q = inr (omega (arith, needs-few π v f r ok), q)
       go (suc (suc i)) l q = absurd (omega (arith, needs-few π v f r ok))
 
-  -- what was absent and is neither of them is absent
-  absent′ : (i : ℕ) → present π v f i ≡ false → i ≢ over r 0 → (needs π v f r ≡ 2 → i ≢ over r 1) → present′ π v f r i ≡ false
-  absent′ i h a b = go (P i) refl
-    where
-      on : (isNew π v f r i ≡ true) ⊎ (present π v f i ≡ true) → ⊥
-      on (inr x) = true≢false (sym x ∙ h)
-      on (inl x) = no (new-cases i x)
-        where
-          no : (i ≡ over r 0) ⊎ ((needs π v f r ≡ 2) × (i ≡ over r 1)) → ⊥
-          no (inl y) = a y
-          no (inr y) = b (y .0) (y .1)
+  -- what is neither of them is old
+  pub new-not : (k : ℕ) → k ≢ over r 0 → (needs π v f r ≡ 2 → k ≢ over r 1) → isNew π v f r k ≡ false
+  new-not k a b = never _ (λ q. ⊎-elim a (λ y. b (y .0) (y .1)) (new-cases k q))
 
-      go : (t : Bool) → P i ≡ t → t ≡ false
-      go true q = absurd (on (present-split π v f r i q))
-      go false q = refl
+  absent′ : (i : ℕ) → present π v f i ≡ false → i ≢ over r 0 → (needs π v f r ≡ 2 → i ≢ over r 1) → present′ π v f r i ≡ false
+  absent′ i h a b = present-not π v f r i (new-not i a b) ∙ h
 
   -- block r stands above all others
   pub last-new : (k : ℕ) → present π v f k ≡ true → k < over r 0
   last-new k p = omega (arith, present-high π v f k p, over-zero r, ok .next)
 
   -- the new pointer block stands below all others
-  pub first-new : needs π v f r ≡ 2 → (k : ℕ) → present′ π v f r k ≡ true → k ≢ over r 1 → over r 1 < k
-  first-new n k p ne = go (ltb 288 k) refl
-    where
-      is : over r 1 ≡ 288 - (r - 64) / 128
-      is = over-near r (ok .far) (new-not-home π v f r ok 1 (omega arith)) .1 .0
-
-      go : (t : Bool) → ltb 288 k ≡ t → over r 1 < k
-      go true q = omega (arith, is, ltb-true 288 k q)
-      go false q =
-          let l = ltb-false 288 k q in
-          omega (arith, is, ne, first-pointer k l, asked′ π v f r ok k (λ z. omega arith) p)
-
   pub first-old : needs π v f r ≡ 2 → (k : ℕ) → present π v f k ≡ true → over r 1 < k
-  first-old n k p = first-new n k (present-old π v f r k p) (λ z. true≢false (sym p ∙ ap (present π v f) z ∙ new-absent π v f r ok 1 (omega arith)))
+  first-old n k p =
+      let ne : k ≢ over r 1 = λ z. true≢false (sym p ∙ ap (present π v f) z ∙ new-absent π v f r ok 1 (omega arith)) in
+      omega (arith, ne, over-least r, range′ π v f r ok k (present-old π v f r k p) .0)
 
   -- ---- the neighbours
 
@@ -160,7 +123,7 @@ module _ (π : Partition) (v : View) (f r : ℕ) (ok : Ready π v f r) where
       a = below-is π v f (ok .formed) k (present-low π v f k p)
 
       k-pos : 0 < k
-      k-pos = present-pos π v f (ok .cand) (ok .formed) k p
+      k-pos = omega (arith, pos′, range′ π v f r ok k (present-old π v f r k p) .0)
 
       first-one : (below π v f k ≢ 0 → ⊥) → least π v f ≡ k
       first-one n = next-one (present π v f) 0 _ k (least-is π v f (ok .formed)) (record { hit = λ _. (p, k-pos); none = λ j b c. a .none j b (c (λ w. omega (arith, k-pos))) (λ x. absurd (n x)) })

@@ -5,18 +5,23 @@ use mathlib.Core.Bool.{Bool, true, false, _||_, true≢false}
 use Prim.Native.Nat.{ℕ, zero, suc, _+_, _-_, _/_, _≤_, _<_}
 use native.Mathlib.Omega.{arith}
 use lib.Dec.{leb, ltb, eqb}
-use borrow.Author.Tests.{ltb-true, ltb-false, eqb-true, eqb-false, eq-eqb, ne-eqb, le-leb, leb-true}
+use borrow.Author.Tests.{ltb-true, ltb-false, eqb-true, eqb-false, lt-ltb, le-ltb, eq-eqb, ne-eqb, le-leb, leb-true}
 use Rattle.base.specs.Tests.{pick, both}
 use Rattle.base.specs.Laws.{both-left, both-right, both-of}
 use Rattle.image.specs.View.{View}
-use Rattle.volume.specs.Keys.{home, up, first, reach}
-use Rattle.volume.specs.KeyLaws.{level, up-level, level-few, level-zero, up-most, up-pos, first-up, first-data, row-direct, row-data, near-keys}
-use Rattle.volume.specs.Files.{inside, present, owned}
+use Rattle.volume.specs.Keys.{home, reach, up, first, low}
+use Rattle.volume.specs.KeyLaws.{up-most, up-pos, up-home, first-up, first-data, row-direct, row-data, row-ptr}
+use Rattle.volume.specs.Files.{inside, len, present, owned}
 use Rattle.volume.specs.declared.Partition.{Partition}
-use Rattle.volume.specs.Index.{present-home, here-of}
+use Rattle.volume.specs.Index.{present-home, here-of, wf-of}
 use Rattle.volume.specs.Plans.{freeAt}
 use Rattle.volume.specs.Writes.{over, needs, newly, isNew, fresh, present′}
-use Rattle.growth.specs.Ready.{Ready}
+use Rattle.growth.specs.Ready.{Behind, Ready}
+
+-- a test that cannot hold
+pub never : (t : Bool) → (t ≡ true → ⊥) → t ≡ false
+never true h = absurd (h refl)
+never false h = refl
 
 pub or-left : (a b : Bool) → a ≡ true → (a || b) ≡ true
 or-left a b q = ap (λ (t : Bool). t || b) q
@@ -41,134 +46,95 @@ pub over-data : (r : ℕ) → 64 ≤ r → over r 1 ≡ 288 - (r - 64) / 128
 unfolding over
 over-data r l = row-data r l .0
 
--- of what the index reaches, a pointer block over a data block is named by the FIB
-pub over-near : (r : ℕ) → r < reach → over r 1 ≢ home → (64 ≤ r) × ((over r 1 ≡ 288 - (r - 64) / 128) × (over r 2 ≡ home))
-unfolding over
-over-near r l n = go (ltb r 64) refl
+-- the key over block r is the first of r + 1 blocks: the FIB's, or from block 64 on that of a pointer block, which the FIB names
+pub over-least : (r : ℕ) → over r 1 ≡ low (suc r)
+unfolding over low
+over-least r = go (ltb r 64) refl
   where
-    go : (t : Bool) → ltb r 64 ≡ t → (64 ≤ r) × ((up (292 + r) ≡ 288 - (r - 64) / 128) × (up (up (292 + r)) ≡ home))
+    at : (t : Bool) → ltb 64 (suc r) ≡ t → low (suc r) ≡ pick t (289 - (suc r + 63) / 128) home
+    at t q = ap (λ (u : Bool). pick u (289 - (suc r + 63) / 128) home) q
+
+    go : (t : Bool) → ltb r 64 ≡ t → up (292 + r) ≡ low (suc r)
+    go true q = let m = ltb-true r 64 q in row-direct r m .0 ∙ sym (at false (le-ltb 64 (suc r) (omega arith)))
+    go false q = let m = ltb-false r 64 q in row-data r m .0 ∙ sym (at true (lt-ltb 64 (suc r) (omega arith)) ∙ omega arith)
+
+pub over-near : (r : ℕ) → over r 1 ≢ home → 64 ≤ r
+unfolding over
+over-near r n = go (ltb r 64) refl
+  where
+    go : (t : Bool) → ltb r 64 ≡ t → 64 ≤ r
     go true q = absurd (n (row-direct r (ltb-true r 64 q) .0))
+    go false q = ltb-false r 64 q
+
+pub over-two : (r : ℕ) → r < reach → over r 2 ≡ home
+unfolding over
+over-two r l = go (eqb (over r 1) home) refl
+  where
+    go : (t : Bool) → eqb (over r 1) home ≡ t → up (over r 1) ≡ home
+    go true q = ap up (eqb-true (over r 1) home q) ∙ up-home
     go false q =
-        let m = ltb-false r 64 q in
-        let e = row-data r m .0 in
-        (m, (e, near-keys (up (292 + r)) (omega arith) (omega arith)))
+        let m = over-near r (eqb-false (over r 1) home q) in
+        ap up (over-data r m) ∙ row-ptr ((r - 64) / 128) (omega arith) .0
+
+pub both-none : (t : Bool) → both t false ≡ false
+unfolding both
+both-none true = refl
+both-none false = refl
 
 module _ (π : Partition) (v : View) (f r : ℕ) where
+  pub needs-some : 1 ≤ needs π v f r
+  unfolding needs
+  needs-some = go (present π v f (over r 1)) (present π v f (over r 2))
+    where
+      go : (a b : Bool) → 1 ≤ pick a 1 (pick b 2 3)
+      go true b = omega arith
+      go false true = omega arith
+      go false false = omega arith
+
   pub needs-one : present π v f (over r 1) ≡ true → needs π v f r ≡ 1
   unfolding needs
   needs-one p = ap (λ (a : Bool). pick a 1 (pick (present π v f (over r 2)) 2 3)) p
 
-  needs-two : present π v f (over r 1) ≡ false → present π v f (over r 2) ≡ true → needs π v f r ≡ 2
-  unfolding needs
-  needs-two p q = ap₂ (λ (a b : Bool). pick a 1 (pick b 2 3)) p q
-
-  needs-three : present π v f (over r 1) ≡ false → present π v f (over r 2) ≡ false → needs π v f r ≡ 3
-  unfolding needs
-  needs-three p q = ap₂ (λ (a b : Bool). pick a 1 (pick b 2 3)) p q
-
-  module _ (ok : Ready π v f r) where
-    pub needs-some : 1 ≤ needs π v f r
+  module _ (ok : Behind π v f r) where
+    pub needs-two : present π v f (over r 1) ≡ false → needs π v f r ≡ 2
     unfolding needs
-    needs-some = go (present π v f (over r 1)) (present π v f (over r 2))
-      where
-        go : (a b : Bool) → 1 ≤ pick a 1 (pick b 2 3)
-        go true b = omega arith
-        go false true = omega arith
-        go false false = omega arith
+    needs-two p = ap₂ (λ (a b : Bool). pick a 1 (pick b 2 3)) p (ap (present π v f) (over-two r (ok .far)) ∙ present-home π v f)
 
-    pub needs-most : needs π v f r ≤ 3
-    unfolding needs
-    needs-most = go (present π v f (over r 1)) (present π v f (over r 2))
+    pub needs-few : needs π v f r ≤ 2
+    needs-few = go (present π v f (over r 1)) refl
       where
-        go : (a b : Bool) → pick a 1 (pick b 2 3) ≤ 3
-        go true b = omega arith
-        go false true = omega arith
-        go false false = omega arith
+        go : (a : Bool) → present π v f (over r 1) ≡ a → needs π v f r ≤ 2
+        go true p = omega (arith, needs-one p)
+        go false p = omega (arith, needs-two p)
 
     -- block r is absent
-    pub hole : present π v f (over r 0) ≡ false
+    hole : present π v f (over r 0) ≡ false
     unfolding over
-    hole = go (present π v f (292 + r)) refl
-      where
-        go : (t : Bool) → present π v f (292 + r) ≡ t → t ≡ false
-        go true q = absurd (omega (arith, here-of π v f (292 + r) (λ z. omega arith) q .asked, first-data (292 + r) (omega arith), ok .next))
-        go false q = refl
+    hole = never _ (λ q. omega (arith, here-of π v f (292 + r) (λ z. omega arith) q .asked, first-data (292 + r) (omega arith), ok .next))
 
-    -- what is new is absent
+    -- what is new is absent, and L does not ask for it
     pub new-absent : (i : ℕ) → i < needs π v f r → present π v f (over r i) ≡ false
-    unfolding needs
     new-absent zero l = hole
-    new-absent (suc zero) l = go (present π v f (over r 1)) refl l
+    new-absent (suc zero) l = never _ (λ p. omega (arith, needs-one p))
+    new-absent (suc (suc i)) l = absurd (omega (arith, needs-few))
+
+    pub new-beyond : (i : ℕ) → i < needs π v f r → len v f ≤ first (over r i)
+    new-beyond i l = go (ltb (first (over r i)) (len v f)) refl
       where
-        go : (a : Bool) → present π v f (over r 1) ≡ a → 1 < pick a 1 (pick (present π v f (over r 2)) 2 3) → a ≡ false
-        go true q m = absurd (omega arith)
-        go false q m = refl
-    new-absent (suc (suc zero)) l = go (present π v f (over r 1)) (present π v f (over r 2)) refl l
-      where
-        go : (a b : Bool) → present π v f (over r 2) ≡ b → 2 < pick a 1 (pick b 2 3) → b ≡ false
-        go true b q m = absurd (omega arith)
-        go false true q m = absurd (omega arith)
-        go false false q m = refl
-    new-absent (suc (suc (suc i))) l = absurd (omega (arith, needs-most))
+        go : (t : Bool) → ltb (first (over r i)) (len v f) ≡ t → len v f ≤ first (over r i)
+        go true q = absurd (true≢false (sym (wf-of π v f (ok .formed) .full (over r i) (ltb-true _ _ q)) ∙ new-absent i l))
+        go false q = ltb-false (first (over r i)) (len v f) q
 
     pub new-not-home : (i : ℕ) → i < needs π v f r → over r i ≢ home
     new-not-home i l z = true≢false (sym (present-home π v f) ∙ ap (present π v f) (sym z) ∙ new-absent i l)
 
-    -- each lies nearer to the FIB than the one before
-    levels : (i : ℕ) → i < needs π v f r → level (over r (suc i)) < level (over r i)
-    unfolding over
-    levels i l = up-level (over r i) (new-not-home i l)
-
-    pub over-down : (i j : ℕ) → i < j → j ≤ needs π v f r → level (over r j) < level (over r i)
-    over-down i zero l m = absurd (omega arith)
-    over-down i (suc j) l m = go (eqb i j) refl (λ n. over-down i j n (omega arith))
-      where
-        go : (t : Bool) → eqb i j ≡ t → (i < j → level (over r j) < level (over r i)) → level (over r (suc j)) < level (over r i)
-        go true q ih = subst (λ (x : ℕ). level (over r (suc j)) < level (over r x)) (sym (eqb-true i j q)) (levels j (omega arith))
-        go false q ih = omega (arith, ih (omega (arith, eqb-false i j q)), levels j (omega arith))
-
-    pub over-one : (i j : ℕ) → i ≤ needs π v f r → j ≤ needs π v f r → over r i ≡ over r j → i ≡ j
-    over-one i j a b q = go (ltb i j) refl (ltb j i) refl
-      where
-        go : (t : Bool) → ltb i j ≡ t → (u : Bool) → ltb j i ≡ u → i ≡ j
-        go true x u y = absurd (omega (arith, over-down i j (ltb-true i j x) b, ap level q))
-        go false x true y = absurd (omega (arith, over-down j i (ltb-true j i y) a, ap level q))
-        go false x false y = omega (arith, ltb-false i j x, ltb-false j i y)
-
-    pub three : needs π v f r ≡ 3 → over r 3 ≡ home
-    three q = level-zero (over r 3) (omega (arith, over-down 2 3 (omega arith) (omega arith), over-down 1 2 (omega arith) (omega arith), over-down 0 1 (omega arith) (omega arith), level-few (over r 0)))
-
     -- the holder of the last new one is present
     pub held : present π v f (over r (needs π v f r)) ≡ true
-    held = go (present π v f (over r 1)) refl (present π v f (over r 2)) refl
+    held = go (present π v f (over r 1)) refl
       where
-        go : (a : Bool) → present π v f (over r 1) ≡ a → (b : Bool) → present π v f (over r 2) ≡ b → present π v f (over r (needs π v f r)) ≡ true
-        go true p b q = ap (λ (n : ℕ). present π v f (over r n)) (needs-one p) ∙ p
-        go false p true q = ap (λ (n : ℕ). present π v f (over r n)) (needs-two p q) ∙ q
-        go false p false q = ap (λ (n : ℕ). present π v f (over r n)) (needs-three p q) ∙ ap (present π v f) (three (needs-three p q)) ∙ present-home π v f
-
-    -- two at most
-    pub needs-few : needs π v f r ≤ 2
-    needs-few = go (present π v f (over r 1)) refl (eqb (over r 1) home) refl
-      where
-        go : (a : Bool) → present π v f (over r 1) ≡ a → (t : Bool) → eqb (over r 1) home ≡ t → needs π v f r ≤ 2
-        go true p t q = omega (arith, needs-one p)
-        go false p true q = absurd (true≢false (sym (present-home π v f) ∙ ap (present π v f) (sym (eqb-true _ _ q)) ∙ p))
-        go false p false q = omega (arith, needs-two p (ap (present π v f) (over-near r (ok .far) (eqb-false _ _ q) .1 .1) ∙ present-home π v f))
-
-    -- two if L does not ask for the pointer block
-    pub needs-more : present π v f (over r 1) ≡ false → 1 < needs π v f r
-    unfolding needs
-    needs-more p = go (present π v f (over r 1)) p (present π v f (over r 2))
-      where
-        go : (a : Bool) → a ≡ false → (b : Bool) → 1 < pick a 1 (pick b 2 3)
-        go true q b = absurd (true≢false q)
-        go false q true = omega arith
-        go false q false = omega arith
-
-    pub new-holder : (i : ℕ) → i < needs π v f r → up (over r i) ≡ over r (suc i)
-    unfolding over
-    new-holder i l = refl
+        go : (a : Bool) → present π v f (over r 1) ≡ a → present π v f (over r (needs π v f r)) ≡ true
+        go true p = ap (λ (n : ℕ). present π v f (over r n)) (needs-one p) ∙ p
+        go false p = ap (λ (n : ℕ). present π v f (over r n)) (needs-two p) ∙ ap (present π v f) (over-two r (ok .far)) ∙ present-home π v f
 
     -- keys in range, each over r
     pub over-first : (i : ℕ) → i ≤ needs π v f r → first (over r i) ≤ r
@@ -211,29 +177,21 @@ module _ (π : Partition) (v : View) (f r : ℕ) where
     here : (i : ℕ) → i < needs π v f r → newly π v f r i (over r i) ≡ true
     here i l = both-of (le-leb (suc i) (needs π v f r) l) (eq-eqb (over r i) (over r i) refl)
 
-    away : (i j : ℕ) → i < needs π v f r → i ≢ j → newly π v f r j (over r i) ≡ false
-    unfolding both
-    away i j l n = go (leb (suc j) (needs π v f r)) refl
-      where
-        go : (t : Bool) → leb (suc j) (needs π v f r) ≡ t → both t (eqb (over r i) (over r j)) ≡ false
-        go true q = ne-eqb (over r i) (over r j) (λ z. n (over-one i j (omega arith) (omega (arith, leb-true (suc j) (needs π v f r) q)) z))
-        go false q = refl
+    away : newly π v f r 0 (over r 1) ≡ false
+    away = ap (both (leb 1 (needs π v f r))) (ne-eqb (over r 1) (over r 0) (λ z. omega (arith, z, over-zero r, over-up r 0, up-most (over r 0)))) ∙ both-none (leb 1 (needs π v f r))
 
     pub new-at : (i : ℕ) → i < needs π v f r → isNew π v f r (over r i) ≡ true
     unfolding isNew
     new-at zero l = or-left (newly π v f r 0 (over r 0)) (newly π v f r 1 (over r 0) || newly π v f r 2 (over r 0)) (here 0 l)
     new-at (suc zero) l =
         or-right (newly π v f r 0 (over r 1)) (newly π v f r 1 (over r 1) || newly π v f r 2 (over r 1)) (or-left (newly π v f r 1 (over r 1)) (newly π v f r 2 (over r 1)) (here 1 l))
-    new-at (suc (suc zero)) l =
-        or-right (newly π v f r 0 (over r 2)) (newly π v f r 1 (over r 2) || newly π v f r 2 (over r 2)) (or-right (newly π v f r 1 (over r 2)) (newly π v f r 2 (over r 2)) (here 2 l))
-    new-at (suc (suc (suc i))) l = absurd (omega (arith, needs-most))
+    new-at (suc (suc i)) l = absurd (omega (arith, needs-few))
 
     pub fresh-at : (i : ℕ) → i < needs π v f r → fresh π v f r (over r i) ≡ freeAt π v i
     unfolding fresh
     fresh-at zero l = ap (λ (t : Bool). pick t (freeAt π v 0) (pick (newly π v f r 1 (over r 0)) (freeAt π v 1) (freeAt π v 2))) (here 0 l)
-    fresh-at (suc zero) l = ap₂ (λ (t u : Bool). pick t (freeAt π v 0) (pick u (freeAt π v 1) (freeAt π v 2))) (away 1 0 l (λ z. omega arith)) (here 1 l)
-    fresh-at (suc (suc zero)) l = ap₂ (λ (t u : Bool). pick t (freeAt π v 0) (pick u (freeAt π v 1) (freeAt π v 2))) (away 2 0 l (λ z. omega arith)) (away 2 1 l (λ z. omega arith))
-    fresh-at (suc (suc (suc i))) l = absurd (omega (arith, needs-most))
+    fresh-at (suc zero) l = ap₂ (λ (t u : Bool). pick t (freeAt π v 0) (pick u (freeAt π v 1) (freeAt π v 2))) away (here 1 l)
+    fresh-at (suc (suc i)) l = absurd (omega (arith, needs-few))
 
     -- ---- what a new key is
 
@@ -255,34 +213,37 @@ module _ (π : Partition) (v : View) (f r : ℕ) where
       new-up = go (ltb (suc (p .i)) (needs π v f r)) refl
         where
           same : up k ≡ over r (suc (p .i))
-          same = ap up (p .is) ∙ new-holder (p .i) (p .less)
+          same = ap up (p .is) ∙ over-up r (p .i)
 
           go : (t : Bool) → ltb (suc (p .i)) (needs π v f r) ≡ t → (isNew π v f r (up k) || present π v f (up k)) ≡ true
           go true q = or-left (isNew π v f r (up k)) (present π v f (up k)) (ap (isNew π v f r) same ∙ new-at (suc (p .i)) (ltb-true _ _ q))
           go false q = or-right (isNew π v f r (up k)) (present π v f (up k)) (ap (present π v f) (same ∙ ap (over r) (let z : suc (p .i) ≡ needs π v f r = omega (arith, ltb-false (suc (p .i)) (needs π v f r) q, p .less) in z)) ∙ held)
 
-      pub fresh-in : inside π (fresh π v f r k) ≡ true
-      fresh-in = ap (λ (x : ℕ). inside π (fresh π v f r x)) (p .is) ∙ ap (inside π) (fresh-at (p .i) (p .less)) ∙ ok .room (p .i) (omega (arith, p .less)) .0
+    pub home-old : isNew π v f r home ≡ false
+    home-old = never _ (λ q. new-inner home q refl)
 
-      pub fresh-free : owned π v (fresh π v f r k) ≡ false
-      fresh-free = ap (λ (x : ℕ). owned π v (fresh π v f r x)) (p .is) ∙ ap (owned π v) (fresh-at (p .i) (p .less)) ∙ ok .room (p .i) (omega (arith, p .less)) .1
+  module _ (ok : Ready π v f r) where
+    -- the block of a new key lies in the partition, and is free
+    fresh-room : (k : ℕ) → isNew π v f r k ≡ true → (inside π (fresh π v f r k) ≡ true) × (owned π v (fresh π v f r k) ≡ false)
+    fresh-room k h =
+        let p = placed (ok .file) k h in
+        subst (λ (b : ℕ). (inside π b ≡ true) × (owned π v b ≡ false)) (sym (ap (fresh π v f r) (p .is) ∙ fresh-at (ok .file) (p .i) (p .less))) (ok .room (p .i) (omega (arith, p .less)))
+
+    pub fresh-in : (k : ℕ) → isNew π v f r k ≡ true → inside π (fresh π v f r k) ≡ true
+    fresh-in k h = fresh-room k h .0
+
+    pub fresh-free : (k : ℕ) → isNew π v f r k ≡ true → owned π v (fresh π v f r k) ≡ false
+    fresh-free k h = fresh-room k h .1
 
     -- different new keys have different blocks
     pub fresh-one : (j k : ℕ) → isNew π v f r j ≡ true → isNew π v f r k ≡ true → fresh π v f r j ≡ fresh π v f r k → j ≡ k
     fresh-one j k a b q =
-        let x = placed j a in
-        let y = placed k b in
-        let e = sym (fresh-at (x .i) (x .less)) ∙ ap (fresh π v f r) (sym (x .is)) ∙ q ∙ ap (fresh π v f r) (y .is) ∙ fresh-at (y .i) (y .less) in
+        let x = placed (ok .file) j a in
+        let y = placed (ok .file) k b in
+        let e = sym (fresh-at (ok .file) (x .i) (x .less)) ∙ ap (fresh π v f r) (sym (x .is)) ∙ q ∙ ap (fresh π v f r) (y .is) ∙ fresh-at (ok .file) (y .i) (y .less) in
         go x y e (ltb (x .i) (y .i)) refl (ltb (y .i) (x .i)) refl
       where
-        go : (x : Placed j) (y : Placed k) → freeAt π v (x .i) ≡ freeAt π v (y .i) → (t : Bool) → ltb (x .i) (y .i) ≡ t → (u : Bool) → ltb (y .i) (x .i) ≡ u → j ≡ k
+        go : (x : Placed (ok .file) j) (y : Placed (ok .file) k) → freeAt π v (x .i) ≡ freeAt π v (y .i) → (t : Bool) → ltb (x .i) (y .i) ≡ t → (u : Bool) → ltb (y .i) (x .i) ≡ u → j ≡ k
         go x y e true l u m = absurd (ok .apart (x .i) (y .i) (ltb-true _ _ l) (omega (arith, y .less)) e)
         go x y e false l true m = absurd (ok .apart (y .i) (x .i) (ltb-true _ _ m) (omega (arith, x .less)) (sym e))
         go x y e false l false m = x .is ∙ ap (over r) (let z : x .i ≡ y .i = omega (arith, ltb-false (x .i) (y .i) l, ltb-false (y .i) (x .i) m) in z) ∙ sym (y .is)
-
-    pub home-old : isNew π v f r home ≡ false
-    home-old = go (isNew π v f r home) refl
-      where
-        go : (t : Bool) → isNew π v f r home ≡ t → t ≡ false
-        go true q = absurd (new-inner home q refl)
-        go false q = refl

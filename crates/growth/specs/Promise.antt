@@ -160,7 +160,7 @@ module _ (π : Partition) (v : View) (f r : ℕ) (W : Writing π v f r) where
         (all-map (Early π v f r dat may) _ (λ k e. (not-home k e, tt)) (early π v f r) (order .early))
       where
         not-home : (k : ℕ) → Early π v f r dat may k → k ≢ home
-        not-home k (inl h) = new-inner π v f r may k h
+        not-home k (inl h) = new-inner π v f r (may .file) k h
         not-home k (inr h) = h .1
 
     first-apart : freeAt π v (needs π v f r) ≢ π .s

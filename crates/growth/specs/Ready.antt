@@ -37,12 +37,16 @@ module _ (π : Partition) (v : View) (f : ℕ) where
           entry-at π v f k ∙ ap (pair v (spot π v f (up k))) e
           ∙ h .tail (up k) ((slot k - 8) / 2) m p (omega (arith, slot-high k)) (subst (λ (j : ℕ). len v f ≤ first j) (sym c) l)
 
-  -- a file, block r behind its last, and room: the first free blocks are unowned, and each another
-  pub record Ready (r : ℕ) : Type 0 where
-    pub cand : candidate π v f ≡ true
+  -- a well formed file, and block r behind its last
+  pub record Behind (r : ℕ) : Type 0 where
     pub formed : wellFormed π v f ≡ true
     pub next : r ≡ len v f
     pub far : r < reach
+
+  -- besides, it is a candidate, and there is room: the first free blocks are unowned, and each another
+  pub record Ready (r : ℕ) : Type 0 where
+    pub cand : candidate π v f ≡ true
+    pub file : Behind r
     pub room : (i : ℕ) → i ≤ needs π v f r → (inside π (freeAt π v i) ≡ true) × (owned π v (freeAt π v i) ≡ false)
     pub apart : (i j : ℕ) → i < j → j ≤ needs π v f r → freeAt π v i ≢ freeAt π v j
 
@@ -53,9 +57,7 @@ module _ (π : Partition) (v : View) (f : ℕ) where
     pub ready : (r : ℕ) → r ≡ len v f → r < reach → needs π v f r < length (free π v) → Ready r
     ready r q l m = record {
       cand = c;
-      formed = sound-clean π v so f c;
-      next = q;
-      far = l;
+      file = record { formed = sound-clean π v so f c; next = q; far = l };
       room = λ i n. taken π v so (suc (needs π v f r)) m i (omega arith);
       apart = λ i j n o. differ π v so (suc (needs π v f r)) m i j n (omega arith);
     }

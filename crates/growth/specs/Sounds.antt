@@ -76,7 +76,7 @@ module _ (π : Partition) (v : View) (f r : ℕ) (dat : Rec) (ok : Ready π v f 
           let z = eqb-true (fileOf π v b) f q in
           let p = subst (λ (x : ℕ). present π v x (key v b) ≡ true) z (o .here) in
           let p′ = present-old π v f r (key v b) p in
-          subst (λ (x : ℕ). owned π W x ≡ true) (where-is _ p′ ∙ spot-is π v f r ok _ p ∙ ap (λ (x : ℕ). spot π v x (key v b)) (sym z) ∙ o .back)
+          subst (λ (x : ℕ). owned π W x ≡ true) (where-is _ p′ ∙ spot-is π v f r (ok .file) _ p ∙ ap (λ (x : ℕ). spot π v x (key v b)) (sym z) ∙ o .back)
           (member-owned π W f still-candidate wf (key v b) (there _ ∙ p′))
       go false q =
           let o = own π v b h in
@@ -109,9 +109,9 @@ module _ (π : Partition) (v : View) (f r : ℕ) (dat : Rec) (ok : Ready π v f 
 
           on : (isNew π v f r (key W b) ≡ true) ⊎ (present π v f (key W b) ≡ true) → (owned π v b ≡ true) ⊎ Taken π v so (needs π v f r) room b
           on (inl n) =
-              let x = placed π v f r ok (key W b) n in
-              inr (record { i = x .i; less = x .less; is = sym is ∙ spot-new π v f r _ n ∙ ap (fresh π v f r) (x .is) ∙ fresh-at π v f r ok (x .i) (x .less) })
-          on (inr n) = inl (subst (λ (x : ℕ). owned π v x ≡ true) (sym (spot-is π v f r ok _ n) ∙ is) (old-owned π v f r ok _ n))
+              let x = placed π v f r (ok .file) (key W b) n in
+              inr (record { i = x .i; less = x .less; is = sym is ∙ spot-new π v f r _ n ∙ ap (fresh π v f r) (x .is) ∙ fresh-at π v f r (ok .file) (x .i) (x .less) })
+          on (inr n) = inl (subst (λ (x : ℕ). owned π v x ≡ true) (sym (spot-is π v f r (ok .file) _ n) ∙ is) (old-owned π v f r ok _ n))
       go false q =
           let o = own π W b h in
           let n = eqb-false (fileOf π W b) f q in
@@ -132,7 +132,7 @@ module _ (π : Partition) (v : View) (f r : ℕ) (dat : Rec) (ok : Ready π v f 
     pib = pib-rec π v f r dat ok fr od;
     kept = λ b i o n. other-block π v f r dat ok fr od b (apart b o n) (n (needs π v f r) (omega arith)) (not-pib b i);
     old = owned-old;
-    new = λ i l. ap (owned π W) (sym (fresh-at π v f r ok i l)) ∙ owned-new (over r i) (new-at π v f r ok i l);
+    new = λ i l. ap (owned π W) (sym (fresh-at π v f r (ok .file) i l)) ∙ owned-new (over r i) (new-at π v f r (ok .file) i l);
     back = owned-back;
   }
     where
@@ -141,9 +141,9 @@ module _ (π : Partition) (v : View) (f r : ℕ) (dat : Rec) (ok : Ready π v f 
         where
           go : (isNew π v f r k ≡ true) ⊎ (present π v f k ≡ true) → ⊥
           go (inl h) =
-              let x = placed π v f r ok k h in
-              n (x .i) (omega (arith, x .less)) (sym (fresh-at π v f r ok (x .i) (x .less)) ∙ ap (fresh π v f r) (sym (x .is)) ∙ sym (spot-new π v f r k h) ∙ z)
-          go (inr h) = true≢false (sym (old-owned π v f r ok k h) ∙ ap (owned π v) (sym (spot-is π v f r ok k h) ∙ z) ∙ o)
+              let x = placed π v f r (ok .file) k h in
+              n (x .i) (omega (arith, x .less)) (sym (fresh-at π v f r (ok .file) (x .i) (x .less)) ∙ ap (fresh π v f r) (sym (x .is)) ∙ sym (spot-new π v f r k h) ∙ z)
+          go (inr h) = true≢false (sym (old-owned π v f r ok k h) ∙ ap (owned π v) (sym (spot-is π v f r (ok .file) k h) ∙ z) ∙ o)
 
   -- ---- every file
 
@@ -174,7 +174,7 @@ module _ (π : Partition) (v : View) (f r : ℕ) (dat : Rec) (ok : Ready π v f 
                 where
                   on : (isNew π v f r j ≡ true) ⊎ (present π v f j ≡ true) → ⊥
                   on (inl x) = free-one (fresh π v f r j) (sym (spot-new π v f r j x) ∙ z) (fresh-free π v f r ok j x)
-                  on (inr x) = ne (sym (file-back π v h cv (c h cv) k p) ∙ ap (fileOf π v) (sym z ∙ spot-is π v f r ok j x) ∙ file-back π v f (ok .cand) (ok .formed) j x)
+                  on (inr x) = ne (sym (file-back π v h cv (c h cv) k p) ∙ ap (fileOf π v) (sym z ∙ spot-is π v f r (ok .file) j x) ∙ file-back π v f (ok .cand) (ok .file .formed) j x)
 
   pub sound-whole : π .s < π .e → sound π (whole π v f r dat ok fr od) ≡ true
   sound-whole l = sound-of π W (left π v so (needs π v f r) room) l (drawn-free π v so (needs π v f r) room W drawn) clean links

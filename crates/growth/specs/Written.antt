@@ -24,7 +24,7 @@ use Rattle.volume.specs.Plans.{freeAt}
 use Rattle.volume.specs.Writes.{over, isNew, fresh, present′, spot′, above′, below′, least′, size′}
 use Rattle.frame.specs.Repair.{lda-self}
 use Rattle.growth.specs.Ready.{Tails, Ready}
-use Rattle.growth.specs.Path.{over-zero, new-at, fresh-at, needs-some, new-first, new-up, fresh-in, home-old}
+use Rattle.growth.specs.Path.{never, over-zero, new-at, fresh-at, needs-some, new-first, new-up, fresh-in, home-old}
 use Rattle.growth.specs.Afterwards.{present-new, present-old, present-split, present-not, spot-new, spot-old, len-more, len-short, asked′, full′, new-old}
 use Rattle.growth.specs.Neighbours.{least′-there}
 
@@ -49,14 +49,14 @@ module _ (π : Partition) (v : View) (f r : ℕ) where
 
     -- a key that is asked for is one
     valid : (k : ℕ) → first k < suc r → (0 < k) × (k < 37220)
-    valid k l = (omega (arith, asked-low k (suc r) l, low-pos (suc r) (len-short π v f r ok)), omega (arith, asked-high k (suc r) l, len-short π v f r ok))
+    valid k l = (omega (arith, asked-low k (suc r) l, low-pos (suc r) (len-short π v f r (ok .file))), omega (arith, asked-high k (suc r) l, len-short π v f r (ok .file)))
 
     -- the holder of what is present is
     up-too : (k : ℕ) → k ≢ home → present′ π v f r k ≡ true → present′ π v f r (up k) ≡ true
     up-too k n p = go (present-split π v f r k p)
       where
         go : (isNew π v f r k ≡ true) ⊎ (present π v f k ≡ true) → present′ π v f r (up k) ≡ true
-        go (inl q) = new-up π v f r ok k q
+        go (inl q) = new-up π v f r (ok .file) k q
         go (inr q) = present-old π v f r (up k) (here-of π v f k n q .held)
 
     -- the entry of a key, where its holder stands as it should
@@ -72,19 +72,19 @@ module _ (π : Partition) (v : View) (f r : ℕ) where
       entry-asked l p = entry-is (valid k l .0) (valid k l .1) p
 
       entry-there : present′ π v f r k ≡ true → entry π W f k ≡ Entry (isNew π v f r k) (isNew π v f r (up k))
-      entry-there p = entry-asked (asked′ π v f r ok k n p) (up-too k n p)
+      entry-there p = entry-asked (asked′ π v f r (ok .file) k n p) (up-too k n p)
 
       entry-new : isNew π v f r k ≡ true → entry π W f k ≡ lda (π .drive) (fresh π v f r k)
       entry-new q = entry-there (present-new π v f r k q) ∙ ap (λ (t : Bool). Entry t (isNew π v f r (up k))) q
 
       entry-old : present π v f k ≡ true → entry π W f k ≡ entry π v f k
-      entry-old q = entry-there (present-old π v f r k q) ∙ ap₂ Entry (new-old π v f r ok k q) (new-old π v f r ok (up k) (here-of π v f k n q .held))
+      entry-old q = entry-there (present-old π v f r k q) ∙ ap₂ Entry (new-old π v f r (ok .file) k q) (new-old π v f r (ok .file) (up k) (here-of π v f k n q .held))
 
     step : (k : ℕ) → k ≢ home → Same (up k) → Same k
     step k n ih = record { pre = iff-eq _ _ there back; at = at }
       where
         back : present′ π v f r k ≡ true → present π W f k ≡ true
-        back p = of-here π W f k n (record { asked = subst (λ (x : ℕ). first k < x) (sym (w .length)) (asked′ π v f r ok k n p); held = ih .pre ∙ up-too k n p; said = go (present-split π v f r k p) })
+        back p = of-here π W f k n (record { asked = subst (λ (x : ℕ). first k < x) (sym (w .length)) (asked′ π v f r (ok .file) k n p); held = ih .pre ∙ up-too k n p; said = go (present-split π v f r k p) })
           where
             go : (isNew π v f r k ≡ true) ⊎ (present π v f k ≡ true) → entry π W f k ≢ 0
             go (inl q) z = omega (arith, lda-pos (π .drive) (fresh π v f r k), sym (entry-new k n (ih .at) q) ∙ z)
@@ -128,7 +128,7 @@ module _ (π : Partition) (v : View) (f r : ℕ) where
         base : Same home
         base = record {
           pre = present-home π W f ∙ sym (present-old π v f r home (present-home π v f));
-          at = λ _. spot-home π W f ∙ sym (spot-home π v f) ∙ sym (spot-old π v f r home (home-old π v f r ok));
+          at = λ _. spot-home π W f ∙ sym (spot-home π v f) ∙ sym (spot-old π v f r home (home-old π v f r (ok .file)));
         }
 
     -- what is present, and where
@@ -139,7 +139,7 @@ module _ (π : Partition) (v : View) (f r : ℕ) where
     written-spot k = same k .at
 
     pub spot-kept : (k : ℕ) → present π v f k ≡ true → spot π W f k ≡ spot π v f k
-    spot-kept k q = written-spot k (present-old π v f r k q) ∙ spot-old π v f r k (new-old π v f r ok k q)
+    spot-kept k q = written-spot k (present-old π v f r k q) ∙ spot-old π v f r k (new-old π v f r (ok .file) k q)
 
     pub spot-fresh : (k : ℕ) → isNew π v f r k ≡ true → spot π W f k ≡ fresh π v f r k
     spot-fresh k q = written-spot k (present-new π v f r k q) ∙ spot-new π v f r k q
@@ -150,7 +150,7 @@ module _ (π : Partition) (v : View) (f r : ℕ) where
     cases k p = present-split π v f r k (sym (written-present k) ∙ p)
 
     wf : WF π v f
-    wf = wf-of π v f (ok .formed)
+    wf = wf-of π v f (ok .file .formed)
 
     good : (k : ℕ) → k ≢ home → (isNew π v f r k ≡ true) ⊎ (present π v f k ≡ true) → isLda (π .drive) (entry π W f k) (spot π W f k) ≡ true
     good k n (inl q) = ap₂ (isLda (π .drive)) (entry-new k n (written-spot (up k)) q) (spot-fresh k q) ∙ lda-self π (fresh π v f r k)
@@ -159,13 +159,13 @@ module _ (π : Partition) (v : View) (f r : ℕ) where
     mine : (k : ℕ) → (isNew π v f r k ≡ true) ⊎ (present π v f k ≡ true) → Member π W f (spot π W f k) k
     mine k (inl q) = subst (λ (b : ℕ). Member π W f b k) (sym (spot-fresh k q)) (record { ins = fresh-in π v f r ok k q; ser = w .new k q .0; num = w .new k q .1 })
     mine k (inr q) =
-        let m = member π v f (ok .cand) (ok .formed) k q in
+        let m = member π v f (ok .cand) (ok .file .formed) k q in
         subst (λ (b : ℕ). Member π W f b k) (sym (spot-kept k q)) (record { ins = m .ins; ser = sym (same-serial (w .old k q)) ∙ m .ser; num = sym (w .old k q .rel) ∙ m .num })
 
     nil : (k : ℕ) → k ≢ home → up k ≡ home → len W f ≤ first k → pair W f (slot k) ≡ 0
     nil k n q l = sym (at-home W) ∙ entry-is k n (written-spot (up k)) (omega (arith, b .0)) (omega (arith, b .1)) up-home
-        ∙ ap₂ (Entry k n (written-spot (up k))) not-new (ap (isNew π v f r) q ∙ home-old π v f r ok)
-        ∙ at-home v ∙ wf .nil k n q (omega (arith, len-more π v f r ok, w .length))
+        ∙ ap₂ (Entry k n (written-spot (up k))) not-new (ap (isNew π v f r) q ∙ home-old π v f r (ok .file))
+        ∙ at-home v ∙ wf .nil k n q (omega (arith, len-more π v f r (ok .file), w .length))
       where
         b : (257 ≤ k) × (k < 356)
         b = fib-keys k n q
@@ -177,25 +177,21 @@ module _ (π : Partition) (v : View) (f r : ℕ) where
         at-home u = entry-fib π u f k q
 
         not-new : isNew π v f r k ≡ false
-        not-new = go (isNew π v f r k) refl
-          where
-            go : (t : Bool) → isNew π v f r k ≡ t → t ≡ false
-            go true z = absurd (omega (arith, new-first π v f r ok k z, w .length))
-            go false z = refl
+        not-new = never _ (λ z. omega (arith, new-first π v f r (ok .file) k z, w .length))
 
     -- the last block is block r
     end-is : home + len W f ≡ over r 0
     end-is = omega (arith, w .length, over-zero r)
 
     first-new : isNew π v f r (over r 0) ≡ true
-    first-new = new-at π v f r ok 0 (needs-some π v f r ok)
+    first-new = new-at π v f r (ok .file) 0 (needs-some π v f r)
 
     ends : present π W f (home + len W f) ≡ true
     ends = ap (present π W f) end-is ∙ written-present _ ∙ present-new π v f r _ first-new
 
     last : isLda (π .drive) (pair W f lastAddressAt) (spot π W f (home + len W f)) ≡ true
     last =
-        ap₂ (isLda (π .drive)) (w .last) (ap (spot π W f) end-is ∙ spot-fresh (over r 0) first-new ∙ fresh-at π v f r ok 0 (needs-some π v f r ok))
+        ap₂ (isLda (π .drive)) (w .last) (ap (spot π W f) end-is ∙ spot-fresh (over r 0) first-new ∙ fresh-at π v f r (ok .file) 0 (needs-some π v f r))
         ∙ lda-self π (freeAt π v 0)
 
     -- link order
@@ -221,16 +217,16 @@ module _ (π : Partition) (v : View) (f r : ℕ) where
     tallied = ap every
         (cons-same (eq-eqb _ _ (w .used ∙ sym written-size))
         (cons-same (eq-eqb _ _ (w .lowest ∙ ap number (sym written-least)))
-        (cons-same {l = []} (ap (isLda (π .drive) (pair W f lowAddressAt)) (ap (spot π W f) written-least ∙ written-spot (least′ π v f r) (least′-there π v f r ok .1)) ∙ w .lowAt) refl)))
+        (cons-same {l = []} (ap (isLda (π .drive) (pair W f lowAddressAt)) (ap (spot π W f) written-least ∙ written-spot (least′ π v f r) (least′-there π v f r (ok .file) .1)) ∙ w .lowAt) refl)))
 
     pub written-formed : wellFormed π W f ≡ true
     written-formed = of-wf π W f (record {
-      short = subst (λ (n : ℕ). n ≤ reach) (sym (w .length)) (len-short π v f r ok);
+      short = subst (λ (n : ℕ). n ≤ reach) (sym (w .length)) (len-short π v f r (ok .file));
       good = λ k n p. good k n (cases k p);
       mine = λ k n p. mine k (cases k p);
       nil = nil;
       ends = ends;
       last = last;
-      full = λ k l. written-present k ∙ full′ π v f r ok k (subst (λ (n : ℕ). first k < n) (w .length) l);
+      full = λ k l. written-present k ∙ full′ π v f r (ok .file) k (subst (λ (n : ℕ). first k < n) (w .length) l);
       tallied = tallied;
     })

@@ -1,6 +1,6 @@
 use Rattle.records.proofs.Laws.{made-as}
 use Rattle.append.specs.Row.{row}
-use Rattle.append.proofs.Laws.{last-there, top-there}
+use Rattle.append.proofs.Laws.{behind, last-there, top-there}
 use borrow.Author.Needs.{needs}
 use Rattle.append.proofs.append_store.Statement.{statement}
 use Rattle.append.proofs.append_store.Tie as tie
@@ -24,7 +24,7 @@ perform-requires : tie.Need-perform-requires
 perform-requires c κs = record { a-in = c .before .before .before .before .before .before .before .before .before .before .before .before .before .data-save .ensures .fits; b-in = c .before .before .before .before .before .before .before .before .before .before .before .pointer-save .ensures .fits; c-in = c .before .before .before .before .before .before .before .before .before .old-save .ensures .fits; d-in = c .before .before .before .before .before .before .before .old-save2 .ensures .fits; e-in = c .before .before .before .before .before .fib-save .ensures .fits; f-in = c .before .before .before .first-save .ensures .fits; g-in = c .before .pib-less-save .ensures .fits }
 
 returns : tie.Need-returns
-returns c = let x = c .before .before .before .before .before .before .before .before .before .before .before .before .before .before .before .before .before .before .before .before .before .before .before .pre .0 in made-as (row _ _ _ _ (x .file .opened .formed) (x .file .next) (x .file .far) _ _ _ _ _ (x .file .first) (x .file .second) (x .after) (x .many)) (rw (c .before .before .before .before .before .before .before .before .before .before .before .before .before .before .before .before .data-save .ensures .list, c .before .before .before .before .before .before .before .before .before .before .before .before .before .before .pointer-save .ensures .list, c .before .before .before .before .before .before .before .before .before .before .before .before .old-save .ensures .list, c .before .before .before .before .before .before .before .before .before .before .old-save2 .ensures .list, c .before .before .before .before .before .before .before .before .before .before .before .before .before .before .before .before .before .before .grows .ensures, c .before .before .before .before .before .before .before .before .before .before .before .before .before .before .before .before .before .before .before .low .ensures .0, c .before .before .before .before .before .before .before .before .fib-save .ensures .list, c .before .before .before .before .before .before .first-save .ensures .list, c .before .before .before .before .pib-less-save .ensures .list) at (c .before .before .perform .ensures))
+returns c = let x = c .before .before .before .before .before .before .before .before .before .before .before .before .before .before .before .before .before .before .before .before .before .before .before .pre .0 in made-as (row _ _ _ _ (behind (x .file)) _ _ _ _ _ (x .file .first) (x .file .second) (x .after) (x .many)) (rw (c .before .before .before .before .before .before .before .before .before .before .before .before .before .before .before .before .data-save .ensures .list, c .before .before .before .before .before .before .before .before .before .before .before .before .before .before .pointer-save .ensures .list, c .before .before .before .before .before .before .before .before .before .before .before .before .old-save .ensures .list, c .before .before .before .before .before .before .before .before .before .before .old-save2 .ensures .list, c .before .before .before .before .before .before .before .before .before .before .before .before .before .before .before .before .before .before .grows .ensures, c .before .before .before .before .before .before .before .before .before .before .before .before .before .before .before .before .before .before .before .low .ensures .0, c .before .before .before .before .before .before .before .before .fib-save .ensures .list, c .before .before .before .before .before .before .first-save .ensures .list, c .before .before .before .before .pib-less-save .ensures .list) at (c .before .before .perform .ensures))
 
 pub append-store-spec : {M : Type 1} → statement M
 append-store-spec =

@@ -1,7 +1,8 @@
 use native.Mathlib.Omega.{arith}
+use Rattle.growth.specs.Afterwards.{home-there}
 use Rattle.append.specs.Bodies.{grownFib}
 use Rattle.append.specs.Growing.{fibStore}
-use Rattle.append.proofs.Laws.{direct-in, number-last, low-there, home-there}
+use Rattle.append.proofs.Laws.{direct-in, number-last, low-there}
 use Rattle.inspect.proofs.Signs.{passed-word, passed-fits, number-small}
 use borrow.Author.Needs.{needs}
 use Rattle.append.proofs.fib_save.Statement.{statement}
@@ -26,7 +27,7 @@ size-of-requires : tie.Need-size-of-requires
 size-of-requires c κs = omega (arith, c .before .before .before .before .before .before .before .before .before .before .before .before .before .before .before .before .before .pre .far)
 
 key-save-requires : tie.Need-key-save-requires
-key-save-requires c κs = (c .before .before .before .before .before .before .before .before .before .before .before .before .before .before .before .before .before .before .before .pre, home-there (c .before .before .before .before .before .before .before .before .before .before .before .before .before .before .before .before .before .before .before .pre))
+key-save-requires c κs = (c .before .before .before .before .before .before .before .before .before .before .before .before .before .before .before .before .before .before .before .pre, home-there _ _ _ _)
 
 returns : tie.Need-returns
 unfolding fibStore grownFib
