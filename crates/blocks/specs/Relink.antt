@@ -10,7 +10,6 @@ use Rattle.volume.specs.Words.{serialAt, relativeAt, nextAt, previousAt}
 use Rattle.volume.specs.Keys.{keyOf}
 use Rattle.volume.specs.Files.{len, present, candidate, fileOf, key, owned, above, below, link}
 use Rattle.volume.specs.declared.Partition.{Partition}
-use Rattle.volume.specs.Reads.{candidate-in}
 use Rattle.volume.specs.Index.{own, file-candidate}
 use Rattle.volume.specs.Closed.{hasKey, present-closed}
 use Rattle.volume.specs.Plans.{shaped, content, relinked}
@@ -40,19 +39,18 @@ module _ {π : Partition} {l : List ℕ} (b : ℕ) {x f : ℕ} (r : Ready π l) 
   is-candidate : candidate π (view l) f ≡ true
   is-candidate = rw file-is (file-candidate π (view l) _ (own π (view l) b o .file))
 
-  pub file-in : f ≤ π .e
-  file-in = candidate-in π (view l) f is-candidate .1
+  pub file-opened : Opened π l f
+  file-opened = opened (r .lies) (r .none) f is-candidate
 
   pub filed : {n k : ℕ} → n ≡ len (view l) f → k ≡ keyOf (view l b relativeAt) → Filed π l b f n k
   unfolding key relinked content
   filed {n} {k} hn hk =
-      let opens = opened (r .lies) (r .none) f is-candidate in
       let here : present π (view l) f k ≡ true = rw (file-is, hk) (own π (view l) b o .here) in
       record {
-        opened = opens;
-        short = rw hn (opened-few opens);
+        opened = file-opened;
+        short = rw hn (opened-few file-opened);
         here = here;
-        has = rw hn (sym (present-closed π (view l) f (opens .formed) k) ∙ here);
+        has = rw hn (sym (present-closed π (view l) f (file-opened .formed) k) ∙ here);
         next = rw (file-is, hk) (next-small π (view l) (r .lies .few) b o);
         previous = rw (file-is, hk) (prev-small π (view l) (r .lies .few) b o);
         is = rw (hn, file-is, hk);

@@ -205,10 +205,6 @@ fitting (suc m) [] = []
 fitting (suc m) (row r ∷ is) = r ++ fitting m is
 fitting (suc m) (tenth f ∷ is) = []
 
--- x over the bytes of b from `at` on
-unfoldable pub lay : List ℕ → ℕ → List ℕ → List ℕ
-lay b at x = take at b ++ (x ++ drop (at + length x) b)
-
 -- ---- the call look up: 1, 2, 3, 6, 11
 
 abbrev pub lookedAs : Looked → Outcome

@@ -5,17 +5,14 @@ use Prim.Native.Nat.{ℕ, _+_, _-_, _*_, _≤_, _<_}
 use native.Mathlib.Omega.{arith}
 use native.Mathlib.Numerals.{add-one}
 use lib.ListN.{length, take, drop, length-append, length-drop}
-use lib.Seq.{take-all, take-at, length-take-le, drop-drop}
+use lib.Seq.{take-all, take-at, length-take-le}
 use Rattle.image.specs.Image.{view}
+use Rattle.image.specs.Stores.{lay}
 use Rattle.volume.specs.Files.{name}
 use Rattle.volume.specs.declared.Partition.{Partition}
 use Rattle.volume.specs.Answers.{blockBytes}
-use Rattle.reading.proofs.Laws.{span}
+use Rattle.image.proofs.Laws.{span}
 use Rattle.extract.specs.Into.{dataOf, bytes-next}
-
--- a part replaced, of the list
-pub put-mid : (l src t : List ℕ) (at n : ℕ) → t ≡ src → take at l ++ (t ++ drop (at + n - at) (drop at l)) ≡ take at l ++ (src ++ drop (at + n) l)
-put-mid l src t at n e = rw (e, span, drop-drop)
 
 -- the first r of k blocks stand in the buffer
 pub record Copied (π : Partition) (l : List ℕ) (f k : ℕ) (buf : List ℕ) (r : ℕ) : Type 0 where
@@ -35,12 +32,16 @@ module _ (π : Partition) (l : List ℕ) (f k : ℕ) where
       sym (take-all (512 * k) buf m) ∙ (rw q at (c .bytes))
 
   pub copied-next : (buf buf′ : List ℕ) (r b : ℕ) → Copied π l f k buf r → r < k → b ≡ name π (view l) f r → 528 * b + 528 ≤ length l
-      → buf′ ≡ take (512 * r) buf ++ (take (528 * b + 16 + 512 - (528 * b + 16)) (drop (528 * b + 16) l) ++ drop (512 * r + 512) buf)
+      → buf′ ≡ lay buf (512 * r) (take (528 * b + 16 + 512 - (528 * b + 16)) (drop (528 * b + 16) l))
       → Copied π l f k buf′ (r + 1)
+  unfolding lay
   copied-next buf buf′ r b c h n i e = record { low = omega arith; long = all-long; bytes = rw joined (take-at front rest (512 * (r + 1)) front-long ∙ grown) }
     where
       block : List ℕ
       block = take 512 (drop (528 * b + 16) l)
+
+      block-long : length block ≡ 512
+      block-long = length-take-le 512 (drop (528 * b + 16) l) (rw length-drop (omega arith))
 
       front : List ℕ
       front = take (512 * r) buf ++ block
@@ -49,14 +50,13 @@ module _ (π : Partition) (l : List ℕ) (f k : ℕ) where
       rest = drop (512 * r + 512) buf
 
       joined : buf′ ≡ front ++ rest
-      joined = e ∙ rw span (sym (append-assoc (take (512 * r) buf) block rest))
+      joined = e ∙ rw (span, lay, block-long) (sym (append-assoc (take (512 * r) buf) block rest))
 
       front-long : length front ≡ 512 * (r + 1)
       front-long =
           let u = c .long in
           let x : length (take (512 * r) buf) ≡ 512 * r = length-take-le (512 * r) buf (omega arith) in
-          let y : length block ≡ 512 = length-take-le 512 (drop (528 * b + 16) l) (rw length-drop (omega arith)) in
-          rw length-append (omega arith)
+          rw length-append (omega (arith, block-long))
 
       all-long : length buf′ ≡ 512 * k
       all-long =

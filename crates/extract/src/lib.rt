@@ -1,8 +1,7 @@
 // Extract: a whole file into a caller's buffer, block by block. A refused call leaves the buffer as it is.
 ghost use mathlib.Core.Path.{_≡_};
-ghost use mathlib.Core.List.{_++_};
-ghost use Prim.Native.Nat.{_+_, _*_, _≤_};
-ghost use lib.ListN.{length, take, drop};
+ghost use Prim.Native.Nat.{_+_, _*_};
+ghost use lib.ListN.{length};
 ghost use Rattle.image.specs.Image.{view};
 ghost use Rattle.volume.specs.Files.{len};
 ghost use Rattle.volume.specs.Answers.{blockBytes, extractIn, extractInto, extracted};
@@ -14,15 +13,6 @@ use volume::Outcome;
 use volume::Part;
 use volume::Partition;
 
-// The bytes of src over those of the buffer from `at` on.
-fn put_at(buf: &mut [u8], at: usize, src: &[u8])
-    requires { ⌜ (at + 512 ≤ length (now buf)) × (length (now src) ≡ 512) ⌝ }
-    ensures { λ _. ⌜ now (buf .exit) ≡ take at (now (buf .entry)) ++ (now (src .entry) ++ drop (at + 512) (now (buf .entry))) ⌝ }
-{
-    let end = at + 512;
-    reading::put(&mut buf[at..end], src);
-}
-
 // The k blocks of f, one after the other, into the buffer.
 fn copy_blocks(img: &[u8], p: Partition, f: usize, k: usize, buf: &mut [u8])
     requires { ⌜ (Opened p (now img) f) × (k ≡ len (view (now img)) f) × (length (now buf) ≡ 512 * k) ⌝ }
@@ -32,7 +22,7 @@ fn copy_blocks(img: &[u8], p: Partition, f: usize, k: usize, buf: &mut [u8])
         let b = inspect::name(img, p, f, r);
         let from = 528 * b + 16;
         let end = from + 512;
-        put_at(buf, 512 * r, &img[from..end]);
+        image::put_at(buf, 512 * r, &img[from..end]);
     }
 }
 

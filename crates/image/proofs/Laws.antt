@@ -13,10 +13,25 @@ use borrow.Author.Tests.{ltb-true, ltb-false, lt-ltb, le-ltb, eqb-true, eqb-fals
 use Rattle.base.specs.Tests.{pick, both}
 use Rattle.image.specs.View.{Rec, Store, put, blank}
 use Rattle.image.specs.Image.{view, recOf, rec-at, Bytes}
-use Rattle.image.specs.Stores.{bytesOf, over, stored, In, bytes-rec}
+use Rattle.image.specs.Stores.{bytesOf, lay, over, stored, In, bytes-rec}
 use Rattle.image.specs.Saves.{when, words, withData, withText, Applied, Made}
 
 -- ---- copies
+
+-- a part of n bytes is n bytes long
+pub span : (a n : ℕ) → a + n - a ≡ n
+span a n = omega arith
+
+-- a copy into a part
+pub put-lay : (b src t : List ℕ) (at : ℕ) → at + length src ≤ length b
+    → t ≡ take (length src) src ++ drop (length src) (take (at + length src - at) (drop at b))
+    → take at b ++ (t ++ drop (at + length src - at) (drop at b)) ≡ lay b at src
+unfolding lay
+put-lay b src t at h e =
+    let p = take (at + length src - at) (drop at b) in
+    let m : length p ≤ length src = rw (length-take-le (at + length src - at) (drop at b) (rw length-drop (omega arith))) (omega arith) in
+    let z : t ≡ src = e ∙ rw (take-length, drop-of-length-le p m, append-nil) in
+    rw (z, span, drop-drop, lay)
 
 -- record b, copied out
 pub copied-out : (l z : List ℕ) (b k : ℕ) → k ≡ 528 → In l b → length z ≡ 528

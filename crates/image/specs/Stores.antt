@@ -23,6 +23,10 @@ bytesFrom r i (suc k) = r i % 256 ∷ (r i / 256 ∷ bytesFrom r (suc i) k)
 unfoldable pub bytesOf : Rec → List ℕ
 bytesOf r = bytesFrom r 0 264
 
+-- x over the bytes of b from `at` on
+unfoldable pub lay : List ℕ → ℕ → List ℕ → List ℕ
+lay b at x = take at b ++ (x ++ drop (at + length x) b)
+
 -- the image with the bytes x as its record b
 unfoldable pub over : List ℕ → ℕ → List ℕ → List ℕ
 over l b x = take (528 * b) l ++ (x ++ drop (528 * b + 528) l)

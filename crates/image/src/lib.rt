@@ -9,7 +9,7 @@ ghost use mir.Val.{SFits};
 ghost use Rattle.image.specs.View.{pair, put, put2, blank};
 ghost use Rattle.image.specs.Signed.{signed, wordOf};
 ghost use Rattle.image.specs.Image.{view, recOf};
-ghost use Rattle.image.specs.Stores.{bytesOf, over};
+ghost use Rattle.image.specs.Stores.{bytesOf, lay, over};
 ghost use Rattle.image.specs.Saves.{when, saves, words, withData, withText, Applied, Made, seven, Within};
 
 // A byte as a number.
@@ -78,6 +78,15 @@ pub fn record(img: &[u8], b: usize) -> [u8; 528]
     let mut r = [0u8; 528];
     bytes::copy(&img[at..end], &mut r);
     r
+}
+
+// The bytes of src over those of the buffer from `at` on.
+pub fn put_at(buf: &mut [u8], at: usize, src: &[u8])
+    requires { ⌜ at + length (now src) ≤ length (now buf) ⌝ }
+    ensures { λ _. ⌜ now (buf .exit) ≡ lay (now (buf .entry)) at (now (src .entry)) ⌝ }
+{
+    let end = at + src.len();
+    bytes::copy(src, &mut buf[at..end]);
 }
 
 // A record of zeros.

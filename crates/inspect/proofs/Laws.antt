@@ -129,6 +129,10 @@ module _ {π : Partition} {l : List ℕ} {f : ℕ} (o : Opened π l f) where
   pub opened-few : len (view l) f ≤ 4160
   opened-few = wf-of π (view l) f (o .formed) .short
 
+  -- what the reader of L asks for
+  pub opened-len : (528 * f + 528 ≤ length l) × (len (view l) f ≤ 4160)
+  opened-len = (omega (arith, o .here, o .lies .within), opened-few)
+
   -- block r below L + 1 is present
   pub opened-data : (r : ℕ) → r < len (view l) f → present π (view l) f (292 + r) ≡ true
   opened-data r h = wf-of π (view l) f (o .formed) .full (292 + r) (omega (arith, first-data (292 + r) (omega arith)))

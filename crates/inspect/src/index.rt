@@ -10,6 +10,7 @@ ghost use Rattle.base.specs.Tests.{pick, all};
 ghost use Rattle.drive.specs.Address.{pda};
 ghost use Rattle.image.specs.Image.{view};
 ghost use Rattle.image.specs.Signed.{wordOf};
+ghost use Rattle.volume.specs.Keys.{reach};
 ghost use Rattle.volume.specs.Files.{len, spot, present, name};
 ghost use Rattle.volume.specs.Reads.{Lies};
 ghost use Rattle.inspect.specs.Form.{names, pointerTest, dataTest, indexGood};
@@ -23,12 +24,12 @@ use volume::words::LAST_BLOCK;
 use volume::words::SERIAL;
 use volume::words::SLOTS;
 
-// L + 1, of any L.
+// L + 1, of an f whose L is within reach.
 pub fn len(img: &[u8], f: usize) -> usize
-    requires { ⌜ 528 * f + 528 ≤ length (now img) ⌝ }
-    ensures { λ k. ⌜ (k ≡ len (view (now (img .entry))) f) × (k < 65536) ⌝ }
+    requires { ⌜ (528 * f + 528 ≤ length (now img)) × (len (view (now img)) f ≤ reach) ⌝ }
+    ensures { λ k. ⌜ (k ≡ len (view (now (img .entry))) f) × (k ≤ 4160) ⌝ }
 {
-    (image::word(img, f, LAST_BLOCK) + 1) % 65536
+    numbers::blocks_to(image::signed_word(img, f, LAST_BLOCK))
 }
 
 // Whether the LDA x is that of a block of the partition with the serial `own` and the relative number n.

@@ -5,7 +5,8 @@ use mathlib.Core.List.{List}
 use Prim.Native.Nat.{ℕ}
 use lib.ListN.{length}
 use Rattle.volume.specs.Calls.{Planned}
-use Rattle.directory.specs.Directory.{lookUp, lay, treed}
+use Rattle.directory.specs.Directory.{lookUp, treed}
+use Rattle.image.specs.Stores.{lay}
 use Rattle.perq.specs.Flat.{flat, Changed}
 use Rattle.perq.specs.declared.PerqAnswer.{PerqAnswer}
 

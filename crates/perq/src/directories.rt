@@ -1,7 +1,8 @@
 // The calls that read directories, for a host.
 ghost use mathlib.Core.Path.{_≡_};
 ghost use lib.ListN.{length};
-ghost use Rattle.directory.specs.Directory.{lookUp, lay, treed};
+ghost use Rattle.directory.specs.Directory.{lookUp, treed};
+ghost use Rattle.image.specs.Stores.{lay};
 ghost use Rattle.perq.specs.Flat.{flat};
 use crate::PerqAnswer;
 

@@ -8,6 +8,7 @@ use lib.Dec.{eqb}
 use lib.ListN.{length, take, drop, length-drop, drop-of-length-le}
 use lib.Seq.{take-length, length-take-le}
 use borrow.Author.Tests.{eqb-true}
+use Rattle.image.proofs.Laws.{span}
 use Rattle.image.specs.Image.{view}
 use Rattle.volume.specs.Files.{partitionOf, candidate}
 use Rattle.volume.specs.Answers.{partition, readFrom, describedAs}
@@ -23,8 +24,6 @@ use Rattle.inspect.proofs.Laws.{shown-at}
 pub put-all : (src buf : List ℕ) → length buf ≡ length src → take (length src) src ++ drop (length src) buf ≡ src
 put-all src buf h = let m : length buf ≤ length src = omega arith in rw (take-length, drop-of-length-le buf m, append-nil)
 
-pub span : (a n : ℕ) → a + n - a ≡ n
-span a n = omega arith
 
 -- a part that lies in the list is as long as it says
 pub part-long : (l : List ℕ) (at n : ℕ) → at + n ≤ length l → length (take (at + n - at) (drop at l)) ≡ n

@@ -1,26 +1,14 @@
 -- How a row comes about in the buffer, and the name of an entry as the code reads it. Assumes nothing.
 use mathlib.Core.Path.{_≡_, refl, ap, _∙_}
-use mathlib.Core.List.{List, [], _∷_, _++_, append-assoc, append-nil}
+use mathlib.Core.List.{List, [], _∷_, _++_, append-assoc}
 use Prim.Native.Nat.{ℕ, zero, suc, _+_, _-_, _*_, _/_, _%_, _≤_}
 use native.Mathlib.Nat.{le-trans, min-le-left}
 use native.Mathlib.Omega.{arith}
-use lib.ListN.{length, getD, take, drop, replicate, length-append, length-drop, length-take, drop-of-length-le}
-use lib.Seq.{take-length, length-take-le, drop-drop}
-use Rattle.directory.specs.Directory.{entryAt, nameLength, nameAt, rowOf, lay}
+use lib.ListN.{length, getD, take, drop, replicate, length-append, length-take}
+use Rattle.directory.specs.Directory.{entryAt, nameLength, nameAt, rowOf}
+use Rattle.image.specs.Stores.{lay}
+use Rattle.image.proofs.Laws.{span}
 use Rattle.tree.specs.Items.{lay-lay}
-
-span : (a n : ℕ) → a + n - a ≡ n
-span a n = omega arith
-
-pub put-lay : (b src t : List ℕ) (at : ℕ) → at + length src ≤ length b
-    → t ≡ take (length src) src ++ drop (length src) (take (at + length src - at) (drop at b))
-    → take at b ++ (t ++ drop (at + length src - at) (drop at b)) ≡ lay b at src
-unfolding lay
-put-lay b src t at h e =
-    let p = take (at + length src - at) (drop at b) in
-    let m : length p ≤ length src = rw (length-take-le (at + length src - at) (drop at b) (rw length-drop (omega arith))) (omega arith) in
-    let z : t ≡ src = e ∙ rw (take-length, drop-of-length-le p m, append-nil) in
-    rw (z, span, drop-drop, lay)
 
 -- the name of an entry as the code reads it
 module _ (l : List ℕ) (b b′ i w : ℕ) (q : w ≡ getD l (528 * b + 16 + 32 * i + 6) 0) (h : b ≡ b′) where

@@ -13,7 +13,8 @@ use Rattle.base.specs.Tests.{pick}
 use Rattle.image.specs.Image.{view}
 use Rattle.volume.specs.Files.{isFile, len}
 use Rattle.volume.specs.declared.Partition.{Partition}
-use Rattle.directory.specs.Directory.{Selection, nameLength, nameAt, placeOf, metAt, Item, row, tenth, rowOf, itemsOf, entries, tree, walked, fitting, lay}
+use Rattle.directory.specs.Directory.{Selection, nameLength, nameAt, placeOf, metAt, Item, row, tenth, rowOf, itemsOf, entries, tree, walked, fitting}
+use Rattle.image.specs.Stores.{lay}
 use Rattle.directory.specs.Entries.{met-short, met-is-file}
 use Rattle.directory.specs.Paths.{file-in}
 use Rattle.directory.specs.declared.Met.{Met}

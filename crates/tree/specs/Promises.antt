@@ -18,7 +18,8 @@ use Rattle.volume.specs.declared.Part.{Part}
 use Rattle.volume.specs.declared.Part.the-variants as part
 use Rattle.volume.specs.declared.Outcome.{Outcome}
 use Rattle.volume.specs.declared.Outcome.the-variants.{Done, Absent, Refused}
-use Rattle.directory.specs.Directory.{selected, isRule, rootOf, Item, tree, walked, fitting, lay, Treed, refusedTree, mostRows, walkedAs, treeRoot, treeIn, treed}
+use Rattle.directory.specs.Directory.{selected, isRule, rootOf, Item, tree, walked, fitting, Treed, refusedTree, mostRows, walkedAs, treeRoot, treeIn, treed}
+use Rattle.image.specs.Stores.{lay}
 use Rattle.directory.specs.Entries.{file-at}
 use Rattle.directory.specs.declared.Walk.{Walk}
 use Rattle.directory.specs.declared.Walk.the-variants.{Going, Stopped, Deep}

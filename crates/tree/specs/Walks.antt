@@ -14,7 +14,8 @@ use Rattle.volume.specs.Steps.{more, none}
 use Rattle.volume.specs.Files.{len}
 use Rattle.volume.specs.declared.Partition.{Partition}
 use Rattle.volume.specs.declared.Outcome.the-variants.{Done, Refused}
-use Rattle.directory.specs.Directory.{Selection, nameAt, placeOf, metAt, Item, row, tenth, rowOf, itemsOf, entries, tree, walked, fitting, lay, walkedAs}
+use Rattle.directory.specs.Directory.{Selection, nameAt, placeOf, metAt, Item, row, tenth, rowOf, itemsOf, entries, tree, walked, fitting, walkedAs}
+use Rattle.image.specs.Stores.{lay}
 use Rattle.directory.specs.Entries.{met-short}
 use Rattle.directory.specs.declared.Met.{Met}
 use Rattle.directory.specs.declared.Met.the-variants.{Skip, Taken}

@@ -6,18 +6,10 @@ ghost use Rattle.base.specs.Tests.{pick};
 ghost use Rattle.image.specs.Image.{view};
 ghost use Rattle.volume.specs.Files.{len};
 ghost use Rattle.inspect.specs.Parts.{Opened};
-ghost use Rattle.directory.specs.Directory.{nameLength, nameAt, placeOf, rowOf, lay};
+ghost use Rattle.directory.specs.Directory.{nameLength, nameAt, placeOf, rowOf};
+ghost use Rattle.image.specs.Stores.{lay};
 use directory::entry;
 use volume::Partition;
-
-// The bytes of src over those of the buffer from `at` on.
-fn put_at(buf: &mut [u8], at: usize, src: &[u8])
-    requires { ⌜ at + length (now src) ≤ length (now buf) ⌝ }
-    ensures { λ _. ⌜ now (buf .exit) ≡ lay (now (buf .entry)) at (now (src .entry)) ⌝ }
-{
-    let end = at + src.len();
-    bytes::copy(src, &mut buf[at..end]);
-}
 
 // Row n.
 fn put_row(rows: &mut [u8], n: usize, t: usize, level: usize, what: usize, name: &[u8])
@@ -35,11 +27,11 @@ fn put_row(rows: &mut [u8], n: usize, t: usize, level: usize, what: usize, name:
         what as u8,
         k as u8,
     ];
-    put_at(rows, a, &head);
-    put_at(rows, a + 7, name);
+    image::put_at(rows, a, &head);
+    image::put_at(rows, a + 7, name);
     let z = [0u8; 25];
     let m = 25 - k;
-    put_at(rows, a + 7 + k, &z[0..m]);
+    image::put_at(rows, a + 7 + k, &z[0..m]);
 }
 
 // The row of entry j of f as row n; nothing unless `on`.

@@ -1,7 +1,8 @@
 use native.Mathlib.Omega.{arith}
 use denote.Ref.{now}
 use borrow.Author.Needs.{needs}
-use Rattle.blocks.specs.Relink.{Filed, filed, file-in}
+use Rattle.blocks.specs.Relink.{Filed, filed, file-opened}
+use Rattle.inspect.proofs.Laws.{opened-len}
 use Rattle.blocks.proofs.relinked.Statement.{statement}
 use Rattle.blocks.proofs.relinked.Tie as tie
 
@@ -12,7 +13,7 @@ read c = let h = c .before .before .before .before .before .pre in filed _ (h .0
 len-requires : tie.Need-len-requires
 len-requires c κs =
     let h = c .before .before .before .before .pre in
-    omega (arith, file-in _ (h .0) (h .2) (c .before .before .pair .ensures .0) (c .before .pda-block .ensures .0), h .0 .lies .within)
+    opened-len (file-opened _ (h .0) (h .2) (c .before .before .pair .ensures .0) (c .before .pda-block .ensures .0))
 
 next-of-requires : tie.Need-next-of-requires
 next-of-requires c κs = let h = read c in (h .opened, c .len .ensures .0, h .here)

@@ -1,8 +1,8 @@
 use mathlib.Core.Path.{sym, _∙_}
 use borrow.Author.Tests.{not-true, not-false}
 use Rattle.base.specs.declared.Refusal.the-variants.{NoCandidate}
-use Rattle.inspect.proofs.Laws.{opened-few, opened-last}
-use Rattle.change.proofs.Laws.{answered-not, answered-done, block-fib, file-opened}
+use Rattle.inspect.proofs.Laws.{opened-last, opened-len}
+use Rattle.change.proofs.Laws.{answered-not, answered-done, file-opened}
 use Rattle.destroy.proofs.Laws.{destroy-nowhere, destroy-is, first-here, destroys}
 use borrow.Author.Needs.{needs}
 use Rattle.destroy.proofs.destroy_open.Statement.{statement}
@@ -12,13 +12,13 @@ returns : tie.Need-returns
 returns c = answered-not NoCandidate (destroy-nowhere _ _ _ (sym (c .before .before .candidate .ensures) ∙ not-true _ (c .before .if1 .taken))) (c .refused .ensures)
 
 len-requires : tie.Need-len-requires
-len-requires c κs = block-fib (c .before .before .before .before .before .pre) _ (sym (c .before .before .candidate .ensures) ∙ not-false _ (c .before .if1 .left)) .within
+len-requires c κs = opened-len (file-opened (c .before .before .before .before .before .pre) _ (sym (c .before .before .candidate .ensures) ∙ not-false _ (c .before .if1 .left)))
 
 low-requires : tie.Need-low-requires
-low-requires c κs = rw (c .len .ensures .0) (opened-few (file-opened (c .before .before .before .before .before .before .pre) _ (sym (c .before .before .before .candidate .ensures) ∙ not-false _ (c .before .before .if1 .left))))
+low-requires c κs = c .len .ensures .1
 
 size-of-requires : tie.Need-size-of-requires
-size-of-requires c κs = rw (c .before .len .ensures .0) (opened-few (file-opened (c .before .before .before .before .before .before .before .pre) _ (sym (c .before .before .before .before .candidate .ensures) ∙ not-false _ (c .before .before .before .if1 .left))))
+size-of-requires c κs = c .before .len .ensures .1
 
 spot-requires : tie.Need-spot-requires
 spot-requires c κs = let x = file-opened (c .before .before .before .before .before .before .before .before .before .pre) _ (sym (c .before .before .before .before .before .before .candidate .ensures) ∙ not-false _ (c .before .before .before .before .before .if1 .left)) in (x, first-here x _ _ (c .before .before .before .len .ensures .0) (c .before .before .low .ensures .0))

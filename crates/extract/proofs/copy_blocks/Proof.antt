@@ -34,7 +34,7 @@ part-put-at-end : tie.Need-part-put-at-end Inv-loop μ-loop
 part-put-at-end c = let i = c .before .before .before .before .before .before .pre .0 .lies .within in omega arith
 
 put-at-requires : tie.Need-put-at-requires Inv-loop μ-loop
-put-at-requires c κs = let i = c .before .before .before .before .before .before .before .pre .0 .lies .within in let j = c .before .before .before .before .loop .inv .long in (omega arith, part-long _ (528 * c .before .before .name .result + 16) 512 (omega arith))
+put-at-requires c κs = let i = c .before .before .before .before .before .before .before .pre .0 .lies .within in let j = c .before .before .before .before .loop .inv .long in omega (arith, part-long _ (528 * c .before .before .name .result + 16) 512 (omega arith))
 
 loop-again : tie.Need-loop-again Inv-loop μ-loop
 loop-again c = let i = c .before .before .before .before .before .before .before .before .before .before .pre .0 .lies .within in copied-next _ _ _ _ _ _ _ _ (c .before .before .before .before .before .before .before .loop .inv) (c .before .before .before .before .before .before .loop-test .taken) (c .before .before .before .before .before .name .ensures .0) (omega arith) (c .before .before .put-at .ensures)

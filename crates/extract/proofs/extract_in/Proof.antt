@@ -1,11 +1,10 @@
 use mathlib.Core.Path.{sym, ap, _∙_}
 use Prim.Native.Nat.{ℕ}
-use native.Mathlib.Omega.{arith}
 use borrow.Author.Tests.{eq-eqb, ne-eqb, not-true, not-false}
 use Rattle.volume.specs.Answers.{extractIn}
 use Rattle.volume.specs.Reads.{candidate-in}
 use Rattle.volume.specs.declared.Outcome.the-variants.{Done}
-use Rattle.inspect.proofs.Laws.{wf-opened}
+use Rattle.inspect.proofs.Laws.{wf-opened, opened-len}
 use borrow.Author.Needs.{needs}
 use Rattle.extract.proofs.extract_in.Statement.{statement}
 use Rattle.extract.proofs.extract_in.Tie as tie
@@ -22,7 +21,7 @@ unfolding extractIn
 returns-2 c = let q = sym (c .before .before .before .candidate .ensures) ∙ not-false _ (c .before .before .if1 .left) in let w = sym (c .before .well-formed .ensures) ∙ not-true _ (c .if2 .taken) in (rw (extractIn, q, w), rw (extractIn, q, w))
 
 len-requires : tie.Need-len-requires
-len-requires c κs = let i = c .before .before .before .before .before .before .pre in omega (arith, i .within, candidate-in _ _ _ (sym (c .before .before .before .candidate .ensures) ∙ not-false _ (c .before .before .if1 .left)) .1)
+len-requires c κs = opened-len (wf-opened _ (c .before .before .before .before .before .before .pre) (candidate-in _ _ _ (sym (c .before .before .before .candidate .ensures) ∙ not-false _ (c .before .before .if1 .left)) .1) (sym (c .before .well-formed .ensures) ∙ not-false _ (c .if2 .left)))
 
 returns-3 : tie.Need-returns-3
 unfolding extractIn

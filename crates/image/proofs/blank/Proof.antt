@@ -1,10 +1,7 @@
--- HEAD
 use Rattle.image.proofs.Laws.{blank-rec}
--- END
 use Rattle.image.proofs.blank.Statement.{statement}
 use Rattle.image.proofs.blank.Tie as tie
 
--- src/lib.rt:25:1
 returns : tie.Need-returns
 returns c = blank-rec
 

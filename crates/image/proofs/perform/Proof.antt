@@ -4,43 +4,33 @@ use borrow.Author.Needs.{needs}
 use Rattle.image.proofs.perform.Statement.{statement}
 use Rattle.image.proofs.perform.Tie as tie
 
--- src/lib.rt:134:9
 step-requires : tie.Need-step-requires
 step-requires c κs = search needs
 
--- src/lib.rt:135:9
 step-requires-2 : tie.Need-step-requires-2
 step-requires-2 c κs = search needs
 
--- src/lib.rt:136:9
 step-requires-3 : tie.Need-step-requires-3
 step-requires-3 c κs = search needs
 
--- src/lib.rt:137:9
 step-requires-4 : tie.Need-step-requires-4
 step-requires-4 c κs = search needs
 
--- src/lib.rt:138:9
 step-requires-5 : tie.Need-step-requires-5
 step-requires-5 c κs = search needs
 
--- src/lib.rt:139:9
 step-requires-6 : tie.Need-step-requires-6
 step-requires-6 c κs = search needs
 
--- src/lib.rt:140:9
 step-requires-7 : tie.Need-step-requires-7
 step-requires-7 c κs = search needs
 
--- src/lib.rt:141:5
 used-requires : tie.Need-used-requires
 used-requires c κs = search needs
 
--- src/lib.rt:130:1
 same-length : tie.Need-same-length
 same-length c = search needs
 
--- src/lib.rt:130:1
 returns : tie.Need-returns
 unfolding seven
 returns c =

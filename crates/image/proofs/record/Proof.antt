@@ -1,44 +1,34 @@
--- HEAD
 use mathlib.Core.Path.{ap, _∙_}
 use Prim.Native.Nat.{_+_, _-_, _*_}
 use native.Mathlib.Omega.{arith}
 use denote.Ref.{now}
 use Rattle.image.specs.Image.{recOf}
 use Rattle.image.proofs.Laws.{copied-out}
--- END
 use borrow.Author.Needs.{needs}
 use Rattle.image.proofs.record.Statement.{statement}
 use Rattle.image.proofs.record.Tie as tie
 
--- src/lib.rt:17:14
 mul-at : tie.Need-mul-at
 mul-at c = search needs
 
--- src/lib.rt:18:15
 add-end : tie.Need-add-end
 add-end c = search needs
 
--- src/lib.rt:20:17
 sub-copy : tie.Need-sub-copy
 sub-copy c = search needs
 
--- src/lib.rt:20:17
 part-copy-start : tie.Need-part-copy-start
 part-copy-start c = search needs
 
--- src/lib.rt:20:17
 part-copy-end : tie.Need-part-copy-end
 part-copy-end c = search needs
 
--- src/lib.rt:20:32
 slice-aggregate-copy : tie.Need-slice-aggregate-copy
 slice-aggregate-copy c = search needs
 
--- src/lib.rt:20:5
 copy-requires : tie.Need-copy-requires
 copy-requires c κs = search needs
 
--- src/lib.rt:13:1
 returns : tie.Need-returns
 returns c = let a = c .before .before .before .before .before .args in ap recOf (c .before .copy .ensures .1) ∙ copied-out (now (a .img)) _ (a .b) (528 * a .b + 528 - 528 * a .b) (omega arith) (omega arith) (search needs)
 

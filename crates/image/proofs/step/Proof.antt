@@ -4,31 +4,25 @@ use borrow.Author.Needs.{needs}
 use Rattle.image.proofs.step.Statement.{statement}
 use Rattle.image.proofs.step.Tie as tie
 
--- src/lib.rt:115:13
 store-at-requires : tie.Need-store-at-requires
 store-at-requires c κs = search needs
 
--- src/lib.rt:116:20
 sub-result : tie.Need-sub-result
 sub-result c = search needs
 
--- src/lib.rt:116:13
 same-length : tie.Need-same-length
 same-length c = search needs
 
--- src/lib.rt:116:13
 returns : tie.Need-returns
 unfolding saves
 returns c =
     let at = c .before .before .before .before in
     step-made _ _ _ _ _ _ (at .before .if1 .taken) (at .if2 .taken) (c .before .before .store-at .ensures)
 
--- src/lib.rt:106:1
 returns-2 : tie.Need-returns-2
 unfolding saves
 returns-2 c = step-full _ _ _ _ _ (c .before .if1 .taken) (c .if2 .left)
 
--- src/lib.rt:106:1
 returns-3 : tie.Need-returns-3
 unfolding saves
 returns-3 c = step-off _ _ _ _ _ (c .if1 .left)

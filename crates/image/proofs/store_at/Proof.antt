@@ -1,43 +1,33 @@
--- HEAD
 use Prim.Native.Nat.{_-_, _*_}
 use native.Mathlib.Omega.{arith}
 use lib.ListN.{length}
 use denote.Ref.{now}
 use Rattle.image.proofs.Laws.{stored-at}
--- END
 use borrow.Author.Needs.{needs}
 use Rattle.image.proofs.store_at.Statement.{statement}
 use Rattle.image.proofs.store_at.Tie as tie
 
--- src/lib.rt:77:14
 mul-at : tie.Need-mul-at
 mul-at c = search needs
 
--- src/lib.rt:78:11
 sub-store : tie.Need-sub-store
 sub-store c = search needs
 
--- src/lib.rt:78:11
 part-store-start : tie.Need-part-store-start
 part-store-start c = search needs
 
--- src/lib.rt:78:11
 part-store-end : tie.Need-part-store-end
 part-store-end c = search needs
 
--- src/lib.rt:78:27
 slice-aggregate-store : tie.Need-slice-aggregate-store
 slice-aggregate-store c = search needs
 
--- src/lib.rt:78:5
 store-requires : tie.Need-store-requires
 store-requires c κs = search needs
 
--- src/lib.rt:73:1
 same-length : tie.Need-same-length
 same-length c = search needs
 
--- src/lib.rt:73:1
 returns : tie.Need-returns
 returns c = let a = c .before .before .before .before .before .before .args in stored-at (now (a .img)) _ (a .b) (length (now (a .img)) - 528 * a .b) _ (omega arith) (c .before .before .store .ensures)
 

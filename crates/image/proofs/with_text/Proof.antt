@@ -1,29 +1,22 @@
--- HEAD
 use native.Mathlib.Omega.{arith}
 use denote.Ref.{now}
 use Rattle.image.proofs.Laws.{text-set}
--- END
 use borrow.Author.Needs.{needs}
 use Rattle.image.proofs.with_text.Statement.{statement}
 use Rattle.image.proofs.with_text.Tie as tie
 
--- src/lib.rt:60:20
 sub-copy : tie.Need-sub-copy
 sub-copy c = search needs
 
--- src/lib.rt:60:20
 part-x-start : tie.Need-part-x-start
 part-x-start c = search needs
 
--- src/lib.rt:60:20
 part-x-end : tie.Need-part-x-end
 part-x-end c = search needs
 
--- src/lib.rt:60:5
 copy-requires : tie.Need-copy-requires
 copy-requires c κs = search needs
 
--- src/lib.rt:55:1
 returns : tie.Need-returns
 returns c = let a = c .before .before .before .before .args in text-set (a .r) (now (a .d)) _ (omega arith) (omega arith) (c .before .copy .ensures .1)
 

@@ -1,36 +1,27 @@
--- HEAD
 use native.Mathlib.Omega.{arith}
 use Rattle.image.proofs.Laws.{word-set}
--- END
 use borrow.Author.Needs.{needs}
 use Rattle.image.proofs.with_word.Statement.{statement}
 use Rattle.image.proofs.with_word.Tie as tie
 
--- src/lib.rt:30:13
 mul-i : tie.Need-mul-i
 mul-i c = search needs
 
--- src/lib.rt:31:12
 cast-x : tie.Need-cast-x
 cast-x c = search needs
 
--- src/lib.rt:31:5
 array-write-x : tie.Need-array-write-x
 array-write-x c = search needs
 
--- src/lib.rt:32:16
 cast-x-2 : tie.Need-cast-x-2
 cast-x-2 c = search needs
 
--- src/lib.rt:32:7
 add-x : tie.Need-add-x
 add-x c = search needs
 
--- src/lib.rt:32:5
 array-write-x-2 : tie.Need-array-write-x-2
 array-write-x-2 c = search needs
 
--- src/lib.rt:25:1
 returns : tie.Need-returns
 returns c = word-set (c .args .r) (c .args .w) (c .args .v) (omega arith) (c .pre .0)
 

@@ -5,7 +5,7 @@ use native.Mathlib.Omega.{arith}
 use denote.Ref.{now}
 use borrow.Author.Needs.{needs}
 use borrow.Author.Tests.{not-true, not-false}
-use Rattle.inspect.proofs.Laws.{opened-least}
+use Rattle.inspect.proofs.Laws.{opened-least, opened-len}
 use Rattle.links.proofs.Laws.{len-few, first-is, next-is, key-high, key-few, key-pointer}
 use Rattle.links.proofs.Walk.{tails-none, tails-are, Linking, Turn, link-starts, link-tail, link-end, link-fails, link-next, next-there, next-more}
 use Rattle.links.proofs.linked.Statement.{statement}
@@ -16,6 +16,9 @@ Inv-loop img p f n k₀ before₀ b₀ own₀ k before b own = Linking p img f k
 
 abbrev μ-loop : tie.MeasureT-loop
 μ-loop img p f n k₀ before₀ b₀ own₀ k before b own = 292 + n - k
+
+len-requires : tie.Need-len-requires Inv-loop μ-loop
+len-requires c κs = opened-len (c .before .pre)
 
 low-requires : tie.Need-low-requires Inv-loop μ-loop
 low-requires c κs = len-few (c .before .before .pre) (c .len .ensures .0)
@@ -71,7 +74,7 @@ linked-spec =
     (tie.spec
     Inv-loop
     μ-loop
-    (λ c κs. search needs)
+    len-requires
     low-requires
     spot-requires
     (λ c κs. search needs)

@@ -1,8 +1,7 @@
 use mathlib.Core.Path.{sym, _∙_}
-use native.Mathlib.Omega.{arith}
 use borrow.Author.Tests.{not-true, not-false}
-use Rattle.volume.specs.Reads.{candidate-in}
-use Rattle.links.proofs.Laws.{opened, is-file, owned-not-file, owned-not-serial, owned-absent, owned-here, len-few, has-is}
+use Rattle.inspect.proofs.Laws.{opened-len}
+use Rattle.links.proofs.Laws.{opened, is-file, owned-not-file, owned-not-serial, owned-absent, owned-here, has-is}
 use borrow.Author.Needs.{needs}
 use Rattle.links.proofs.owned.Statement.{statement}
 use Rattle.links.proofs.owned.Tie as tie
@@ -14,10 +13,10 @@ returns-2 : tie.Need-returns-2
 returns-2 c = owned-not-serial _ _ _ _ _ (c .before .before .before .before .before .pair .ensures .0) (c .before .before .before .before .pda-block .ensures .0) (λ q. c .if2 .taken (q ∙ sym (c .before .pda .ensures)))
 
 len-requires : tie.Need-len-requires
-len-requires c κs = let i = candidate-in _ _ _ (sym (c .before .before .before .candidate .ensures) ∙ not-false _ (c .before .before .if1 .left)) in omega (arith, i .1, c .before .before .before .before .before .before .before .pre .0 .within)
+len-requires c κs = opened-len (opened (c .before .before .before .before .before .before .before .pre .0) (c .before .before .before .before .before .before .before .pre .2) _ (sym (c .before .before .before .candidate .ensures) ∙ not-false _ (c .before .before .if1 .left)))
 
 has-key-requires : tie.Need-has-key-requires
-has-key-requires c κs = let o = opened (c .before .before .before .before .before .before .before .before .before .pre .0) (c .before .before .before .before .before .before .before .before .before .pre .2) _ (sym (c .before .before .before .before .before .candidate .ensures) ∙ not-false _ (c .before .before .before .before .if1 .left)) in (len-few o (c .before .len .ensures .0), c .key-in .ensures .1)
+has-key-requires c κs = (c .before .len .ensures .1, c .key-in .ensures .1)
 
 returns-3 : tie.Need-returns-3
 returns-3 c = let o = opened (c .before .before .before .before .before .before .before .before .before .before .before .pre .0) (c .before .before .before .before .before .before .before .before .before .before .before .pre .2) _ (sym (c .before .before .before .before .before .before .before .candidate .ensures) ∙ not-false _ (c .before .before .before .before .before .before .if1 .left)) in owned-absent _ _ _ _ _ (c .before .before .before .before .before .before .before .before .before .pair .ensures .0) (c .before .before .before .before .before .before .before .before .pda-block .ensures .0) _ (c .before .before .key-in .ensures .0) (has-is o (c .before .before .before .len .ensures .0) _ (c .before .has-key .ensures) ∙ not-true _ (c .if3 .taken))

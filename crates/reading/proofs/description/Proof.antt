@@ -1,7 +1,8 @@
 use mathlib.Core.Path.{sym, _∙_}
 use Prim.Native.Nat.{_+_, _*_}
 use native.Mathlib.Omega.{arith}
-use Rattle.reading.proofs.Laws.{span, part-long, described-done}
+use Rattle.image.proofs.Laws.{span}
+use Rattle.reading.proofs.Laws.{part-long, described-done}
 use borrow.Author.Needs.{needs}
 use Rattle.reading.proofs.description.Statement.{statement}
 use Rattle.reading.proofs.description.Tie as tie

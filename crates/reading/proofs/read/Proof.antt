@@ -1,6 +1,7 @@
 use mathlib.Core.Path.{sym, _∙_}
 use native.Mathlib.Omega.{arith}
-use Rattle.reading.proofs.Laws.{span, part-long, read-done, read-absent}
+use Rattle.image.proofs.Laws.{span}
+use Rattle.reading.proofs.Laws.{part-long, read-done, read-absent}
 use borrow.Author.Needs.{needs}
 use Rattle.reading.proofs.read.Statement.{statement}
 use Rattle.reading.proofs.read.Tie as tie

@@ -1,9 +1,8 @@
 use mathlib.Core.Path.{sym, _∙_}
-use native.Mathlib.Omega.{arith}
 use borrow.Author.Tests.{lt-ltb, le-ltb, not-true, not-false}
 use Rattle.volume.specs.Answers.{showIn}
 use Rattle.volume.specs.Reads.{candidate-in}
-use Rattle.inspect.proofs.Laws.{wf-opened}
+use Rattle.inspect.proofs.Laws.{wf-opened, opened-len}
 use borrow.Author.Needs.{needs}
 use Rattle.shows.proofs.show_in.Statement.{statement}
 use Rattle.shows.proofs.show_in.Tie as tie
@@ -24,7 +23,7 @@ unfolding showIn
 returns-3 c = rw (sym (c .before .before .before .before .candidate .ensures) ∙ not-false _ (c .before .before .before .if1 .left), sym (c .before .before .well-formed .ensures) ∙ not-false _ (c .before .if2 .left), le-ltb _ 4160 (c .if3 .taken), showIn)
 
 len-requires : tie.Need-len-requires
-len-requires c κs = let i = c .before .before .before .before .before .before .pre in omega (arith, i .within, candidate-in _ _ _ (sym (c .before .before .before .before .candidate .ensures) ∙ not-false _ (c .before .before .before .if1 .left)) .1)
+len-requires c κs = opened-len (wf-opened _ (c .before .before .before .before .before .before .pre) (candidate-in _ _ _ (sym (c .before .before .before .before .candidate .ensures) ∙ not-false _ (c .before .before .before .if1 .left)) .1) (sym (c .before .before .well-formed .ensures) ∙ not-false _ (c .before .if2 .left)))
 
 name-requires : tie.Need-name-requires
 name-requires c κs = (wf-opened _ (c .before .before .before .before .before .before .before .before .pre) (candidate-in _ _ _ (sym (c .before .before .before .before .before .before .candidate .ensures) ∙ not-false _ (c .before .before .before .before .before .if1 .left)) .1) (sym (c .before .before .before .before .well-formed .ensures) ∙ not-false _ (c .before .before .before .if2 .left)), rw (c .before .len .ensures .0) at (c .if4 .taken))

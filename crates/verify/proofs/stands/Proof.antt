@@ -1,10 +1,9 @@
 use mathlib.Core.Path.{sym, _∙_}
-use native.Mathlib.Omega.{arith}
 use borrow.Author.Tests.{not-true, not-false}
 use Rattle.volume.specs.Reads.{candidate-in}
 use Rattle.volume.specs.Steps.{both-no, both-no-2}
-use Rattle.inspect.proofs.Laws.{wf-opened}
-use Rattle.verify.proofs.Surveys.{stands-other, stands-faulty, stands-file, size-asks}
+use Rattle.inspect.proofs.Laws.{wf-opened, opened-len}
+use Rattle.verify.proofs.Surveys.{stands-other, stands-faulty, stands-file}
 use borrow.Author.Needs.{needs}
 use Rattle.verify.proofs.stands.Statement.{statement}
 use Rattle.verify.proofs.stands.Tie as tie
@@ -22,10 +21,10 @@ linked-requires : tie.Need-linked-requires
 linked-requires c κs = wf-opened _ (c .before .before .before .before .before .pre) (candidate-in _ _ _ (sym (c .before .before .before .candidate .ensures) ∙ not-false _ (c .before .before .if1 .left)) .1) (sym (c .before .well-formed .ensures) ∙ not-false _ (c .if2 .left))
 
 len-requires : tie.Need-len-requires
-len-requires c κs = let i = candidate-in _ _ _ (sym (c .before .before .before .before .before .candidate .ensures) ∙ not-false _ (c .before .before .before .before .if1 .left)) in omega (arith, i .1, c .before .before .before .before .before .before .before .pre .within)
+len-requires c κs = opened-len (wf-opened _ (c .before .before .before .before .before .before .before .pre) (candidate-in _ _ _ (sym (c .before .before .before .before .before .candidate .ensures) ∙ not-false _ (c .before .before .before .before .if1 .left)) .1) (sym (c .before .before .before .well-formed .ensures) ∙ not-false _ (c .before .before .if2 .left)))
 
 size-of-requires : tie.Need-size-of-requires
-size-of-requires c κs = size-asks _ _ _ (sym (c .before .before .before .before .well-formed .ensures) ∙ not-false _ (c .before .before .before .if2 .left)) (c .len .ensures .0)
+size-of-requires c κs = c .len .ensures .1
 
 returns-3 : tie.Need-returns-3
 returns-3 c = stands-file _ _ _ (sym (c .before .before .before .before .before .before .before .candidate .ensures) ∙ not-false _ (c .before .before .before .before .before .before .if1 .left)) (sym (c .before .before .before .before .before .well-formed .ensures) ∙ not-false _ (c .before .before .before .before .if2 .left)) (sym (c .before .before .before .linked .ensures) ∙ c .before .before .if3 .taken) (c .before .len .ensures .0) (c .size-of .ensures .0)

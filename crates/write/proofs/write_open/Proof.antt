@@ -2,7 +2,8 @@ use mathlib.Core.Path.{sym, _∙_}
 use native.Mathlib.Omega.{arith}
 use borrow.Author.Tests.{not-true, not-false}
 use Rattle.base.specs.declared.Refusal.the-variants.{NoCandidate, BadBlock}
-use Rattle.change.proofs.Laws.{answered-not, answered-as, block-fib}
+use Rattle.inspect.proofs.Laws.{opened-len}
+use Rattle.change.proofs.Laws.{answered-not, answered-as, file-opened}
 use Rattle.write.proofs.Laws.{write-nowhere, write-above, write-far, write-append}
 use borrow.Author.Needs.{needs}
 use Rattle.write.proofs.write_open.Statement.{statement}
@@ -15,7 +16,7 @@ returns-2 : tie.Need-returns-2
 returns-2 c = answered-not BadBlock (write-above _ _ _ _ _ (sym (c .before .before .before .candidate .ensures) ∙ not-false _ (c .before .before .if1 .left)) (c .before .if2 .taken)) (c .refused2 .ensures)
 
 len-requires : tie.Need-len-requires
-len-requires c κs = block-fib (c .before .before .before .before .before .before .before .pre .0) _ (sym (c .before .before .before .candidate .ensures) ∙ not-false _ (c .before .before .if1 .left)) .within
+len-requires c κs = opened-len (file-opened (c .before .before .before .before .before .before .before .pre .0) _ (sym (c .before .before .before .candidate .ensures) ∙ not-false _ (c .before .before .if1 .left)))
 
 replace-open-requires : tie.Need-replace-open-requires
 replace-open-requires c κs = (c .before .before .before .before .before .before .before .before .before .before .pre .0, sym (c .before .before .before .before .before .before .candidate .ensures) ∙ not-false _ (c .before .before .before .before .before .if1 .left), c .before .before .before .before .if2 .left, omega (arith, c .before .before .len .ensures .0, c .before .if3 .taken), c .before .before .before .before .before .before .before .before .before .before .pre .1)

@@ -3,6 +3,7 @@ use native.Mathlib.Omega.{arith}
 use Rattle.volume.specs.Steps.{Searching, search-end}
 use Rattle.directory.specs.Directory as defs
 use Rattle.directory.specs.Paths.{find-starts, find-to, find-hit, find-next}
+use Rattle.inspect.proofs.Laws.{opened-len}
 use Rattle.directory.proofs.find.find.Statement.{statement}
 use Rattle.directory.proofs.find.find.Tie as tie
 
@@ -22,7 +23,7 @@ loop-holds : tie.Need-loop-holds Inv-loop2 μ-loop2 Inv-loop μ-loop
 loop-holds c = (find-starts _ _ _ _ _ _ (c .len .ensures .0), omega arith)
 
 len-requires : tie.Need-len-requires Inv-loop2 μ-loop2 Inv-loop μ-loop
-len-requires c κs = let o = c .before .before .before .pre .0 in omega (arith, o .here, o .lies .within)
+len-requires c κs = opened-len (c .before .before .before .pre .0)
 
 name-requires : tie.Need-name-requires Inv-loop2 μ-loop2 Inv-loop μ-loop
 name-requires c κs = (c .before .before .before .before .before .before .pre .0, rw (c .before .before .len .ensures .0) at (c .loop-test .taken))

@@ -5,10 +5,12 @@ use lib.ListN.{length}
 use borrow.Author.Needs.{needs}
 use borrow.Fn.Kinds.{In}
 use borrow.Fn.PlainCycle.{Measures, is, falls, and}
-use Rattle.directory.specs.Directory.{selected, entries, tree, walked, lay}
+use Rattle.directory.specs.Directory.{selected, entries, tree, walked}
+use Rattle.image.specs.Stores.{lay}
 use Rattle.directory.specs.Entries.{met-short, met-is-file, met-what}
-use Rattle.directory.proofs.Laws.{file-inside, file-opened}
+use Rattle.directory.proofs.Laws.{file-opened}
 use Rattle.directory.proofs.entry.met.Reads as met-reads
+use Rattle.inspect.proofs.Laws.{opened-len}
 use Rattle.inspect.proofs.len.Reads as len-reads
 use Rattle.tree.specs.Items.{tree-sized}
 use Rattle.tree.specs.Walks.{writes, Leaves, leaves-all, walk-deep, walk-starts, walk-ends, walk-skip, walk-full, walk-row, walk-back, walk-stopped, walk-too-deep}
@@ -54,7 +56,7 @@ pub +walk-spec : {M : Type 1} → statement M
     walk-μ-loop
     (λ c. walk-deep _ _ _ _ _ (leaves-all _ (c .before .before .before .before .args .on) _ _ _ (c .before .before .before .before .pre .1 .4)) (c .if1 .taken))  -- returns
     (λ c. let z = c .before .before .before .before .pre .1 .3 in omega arith)  -- sub-level
-    (λ c κs. file-inside _ _ (c .before .before .before .before .pre .1 .0) _ (c .before .before .before .before .pre .1 .2))  -- len-requires
+    (λ c κs. opened-len (file-opened _ _ (c .before .before .before .before .pre .1 .0) _ (c .before .before .before .before .pre .1 .2)))  -- len-requires
     (λ c. search needs)  -- mul-end
     (λ c. walk-starts _ _ _ _ _ _ _ _ (leaves-all _ _ _ _ _ (c .before .before .before .before .before .pre .1 .4)) (let z = c .before .if1 .left in omega arith) (let z = c .before .if1 .left in omega arith) (ap (λ (k : ℕ). 16 * k) (c .len .ensures .0)))  -- loop-holds
     (λ c κs. (file-opened _ _ (c .before .before .before .before .before .before .before .pre .1 .0) _ (c .before .before .before .before .before .before .before .pre .1 .2), (rw (ap (λ (k : ℕ). 16 * k) (c .before .before .len .ensures .0)) at (c .loop-test .taken)), c .before .before .before .before .before .before .before .pre .1 .1))  -- met-requires

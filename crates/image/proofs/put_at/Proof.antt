@@ -1,8 +1,8 @@
 use denote.Ref.{now}
-use Rattle.tree.proofs.Laws.{put-lay}
+use Rattle.image.proofs.Laws.{put-lay}
 use borrow.Author.Needs.{needs}
-use Rattle.tree.proofs.row.put_at.Statement.{statement}
-use Rattle.tree.proofs.row.put_at.Tie as tie
+use Rattle.image.proofs.put_at.Statement.{statement}
+use Rattle.image.proofs.put_at.Tie as tie
 
 returns : tie.Need-returns
 returns c = put-lay (now (c .before .before .before .before .before .before .args .buf)) (now (c .before .before .before .before .before .before .args .src)) _ (c .before .before .before .before .before .before .args .at) (c .before .before .before .before .before .before .pre) (c .before .before .copy .ensures .1)
