@@ -24,7 +24,6 @@ use Rattle.inspect.proofs.Laws.{shown-at}
 pub put-all : (src buf : List ℕ) → length buf ≡ length src → take (length src) src ++ drop (length src) buf ≡ src
 put-all src buf h = let m : length buf ≤ length src = omega arith in rw (take-length, drop-of-length-le buf m, append-nil)
 
-
 -- a part that lies in the list is as long as it says
 pub part-long : (l : List ℕ) (at n : ℕ) → at + n ≤ length l → length (take (at + n - at) (drop at l)) ≡ n
 part-long l at n h = rw span (length-take-le n (drop at l) (rw length-drop (omega arith)))

@@ -1,6 +1,7 @@
 use mathlib.Core.Path.{sym, _∙_}
 use Prim.Native.Nat.{_+_, _-_, _*_}
 use native.Mathlib.Omega.{arith}
+use denote.Ref.{now}
 use Rattle.reading.proofs.Laws.{part-long}
 use Rattle.extract.proofs.Laws.{Copied, copied-none, copied-next, copied-all}
 use Rattle.extract.proofs.copy_blocks.Statement.{statement}
@@ -34,7 +35,11 @@ part-put-at-end : tie.Need-part-put-at-end Inv-loop μ-loop
 part-put-at-end c = let i = c .before .before .before .before .before .before .pre .0 .lies .within in omega arith
 
 put-at-requires : tie.Need-put-at-requires Inv-loop μ-loop
-put-at-requires c κs = let i = c .before .before .before .before .before .before .before .pre .0 .lies .within in let j = c .before .before .before .before .loop .inv .long in omega (arith, part-long _ (528 * c .before .before .name .result + 16) 512 (omega arith))
+put-at-requires c κs =
+    let i = c .before .before .before .before .before .before .before .pre .0 .lies .within in
+    let j = c .before .before .before .before .loop .inv .long in
+    let l = now (c .before .before .before .before .before .before .before .args .img) in
+    omega (arith, part-long l (528 * c .before .before .name .result + 16) 512 (omega arith))
 
 loop-again : tie.Need-loop-again Inv-loop μ-loop
 loop-again c = let i = c .before .before .before .before .before .before .before .before .before .before .pre .0 .lies .within in copied-next _ _ _ _ _ _ _ _ (c .before .before .before .before .before .before .before .loop .inv) (c .before .before .before .before .before .before .loop-test .taken) (c .before .before .before .before .before .name .ensures .0) (omega arith) (c .before .before .put-at .ensures)
