@@ -1,4 +1,4 @@
--- Refusals: the number of each, document 01's up to 10, and the block that one names.
+-- Refusals: the number of each, and the block that one names (docs/FORMAT.md, 7.3).
 use Prim.Native.Nat.{ℕ}
 use Rattle.base.specs.declared.Refusal.{Refusal}
 use Rattle.base.specs.declared.Refusal.the-variants.{BadImage, BadPartition, BadBuffer, Malformed, Unsound, NoCandidate, BadBlock, Full, NothingFree, NoAddress, TooDeep}

@@ -2,8 +2,8 @@
 ghost use mathlib.Core.Path.{_≡_};
 ghost use Rattle.base.specs.Refusals.{number, culprit};
 
-// Why a call is refused, in the order of its numbers: 1 to 10 are document 01's, 11 is request 1's. A malformed candidate and a
-// directory of the tenth level are named by their LBN.
+// Why a call is refused, in the order of its numbers (docs/FORMAT.md, 7.3). A malformed candidate and a directory of the tenth level
+// are named by their LBN.
 pub enum Refusal {
     BadImage,
     BadPartition,

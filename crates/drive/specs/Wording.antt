@@ -1,4 +1,4 @@
--- Document 01's own wording, drive by drive and word by word, is the rule over the rows.
+-- The addresses drive by drive and word by word, as docs/FORMAT.md has them in 2.2, 2.4 and 2.6, are the rule over the rows.
 use mathlib.Core.Path.{_≡_}
 use Prim.Native.Nat.{ℕ, _+_, _*_, _/_, _%_}
 use native.Mathlib.Omega.{arith}

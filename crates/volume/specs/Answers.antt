@@ -1,4 +1,5 @@
--- What the calls that change nothing answer, of the image's bytes l: document 01's refusals in its order, the values, and the buffers.
+-- What the calls that change nothing answer, of the image's bytes l: their refusals in their order (docs/FORMAT.md, 7.4), the values, and
+-- the buffers.
 use mathlib.Core.Path.{_≡_}
 use mathlib.Core.Bool.{Bool, true, false, not}
 use mathlib.Core.List.{List, [], _∷_, _++_}

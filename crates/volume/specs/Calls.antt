@@ -1,5 +1,5 @@
--- What each changing call answers and stores, of the image's bytes l: document 01's refusals in its order, the values, the list of
--- stores with the deciding one's place, and the file named or created.
+-- What each changing call answers and stores, of the image's bytes l: its refusals in their order (docs/FORMAT.md, 7.4), the values, the
+-- list of stores with the deciding one's place (9.2), and the file named or created.
 use mathlib.Core.Path.{_≡_}
 use mathlib.Core.Bool.{Bool, true}
 use mathlib.Core.List.{List, [], _∷_}

@@ -1,5 +1,5 @@
--- Candidates, files, owned blocks, link order, the free chain, soundness: document 01's rules on a view of a partition. A relative number is a key
--- here (Keys), and a file's index says which keys are present, and where.
+-- Candidates, files, owned blocks, link order, the free chain, soundness, on a view of a partition (docs/FORMAT.md, 5 and 6). A relative
+-- number is a key here (Keys), and a file's index says which keys are present, and where.
 use mathlib.Core.Bool.{Bool, true, false, not, _||_}
 use mathlib.Core.List.{List, [], _∷_}
 use Prim.Native.Nat.{ℕ, zero, suc, _+_, _-_, _%_}

@@ -1,5 +1,5 @@
--- The named places are those found by adding the field sizes, in words: of the header and the file block by document 01, of the
--- partition information block by section 2.2 of document 000. By computation.
+-- The named places are those found by adding the field sizes, in words: of the header and the file block (docs/FORMAT.md,
+-- 4.1 and 5.2) and of the partition information block (docs/LAYOUT.md). By computation.
 use mathlib.Core.Path.{_≡_, refl}
 use mathlib.Core.List.{List, [], _∷_}
 use Prim.Native.Nat.{ℕ, _+_, _*_}

@@ -1,4 +1,4 @@
--- Each of document 01's numbers 1 to 10 is given by some input: no refusal is vacuous. By computation.
+-- Each of the numbers 1 to 10 (docs/FORMAT.md, 7.3) is given by some input: no refusal is vacuous. By computation.
 use mathlib.Core.Path.{_≡_, refl}
 use mathlib.Core.List.{List, [], _∷_, _++_}
 use Prim.Native.Nat.{ℕ}

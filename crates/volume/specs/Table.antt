@@ -1,5 +1,5 @@
--- M1 to M12 of document 01, proved of the definitions by computation as one table: `table` is what the definitions give, `paper` what
--- document 01 prints, and `worked` says that they are equal.
+-- The worked examples M1 to M12 (docs/FORMAT.md, 13), proved of the definitions by computation as one table: `table` is what the
+-- definitions give, `paper` what the customer's rules print, and `worked` says that they are equal.
 use mathlib.Core.Path.{_≡_, refl}
 use mathlib.Core.List.{List, [], _∷_, _++_}
 use Prim.Native.Nat.{ℕ, _+_, _-_, _/_, _%_}

@@ -1,4 +1,4 @@
-// What the calls answer. The definitions of document 01 stand in specs/, and docs/DEFINITIONS.md leads to each.
+// The partition, and what the calls answer. The definitions stand in specs/; docs/FORMAT.md has them in words, rule by rule.
 use base::Refusal;
 
 pub mod words; // words.rt: where the words of a record stand
