@@ -32,7 +32,7 @@ enum { PERQ_DONE = 0, PERQ_ABSENT = 1, PERQ_REFUSED = 2 };
 /* A field that a call does not speak of is 0. */
 typedef struct perq_answer {
     uint32_t outcome; /* PERQ_DONE, PERQ_ABSENT or PERQ_REFUSED                          */
-    uint32_t number;  /* when refused: the number in document 01, or 11 (below)          */
+    uint32_t number;  /* when refused: its number, 1 to 11 (docs/FORMAT.md, 7.3)         */
     uint32_t block;   /* when refused by 4: the LBN of the malformed candidate; by 11:   */
                       /* that of the directory of the tenth level                        */
     uint32_t made;    /* changing calls: how many stores were made                       */
