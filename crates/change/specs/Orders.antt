@@ -1,31 +1,35 @@
--- A changing call but repair makes at most seven stores, and none twice in one block.
-use mathlib.Core.Path.{_≡_, refl}
+-- A changing call makes no two stores in one block, and all but repair make at most seven.
+use mathlib.Core.Path.{_≡_, refl, ap}
 use mathlib.Core.Logic.{_≢_}
 use mathlib.Core.Bool.{Bool, true, false}
 use mathlib.Core.List.{List, [], _∷_, _++_}
-use Prim.Native.Nat.{ℕ, _+_, _≤_, _<_}
+use Prim.Native.Nat.{ℕ, zero, suc, _+_, _-_, _≤_, _<_}
 use native.Mathlib.Omega.{arith}
 use lib.Dec.{leb, ltb, eqb}
 use lib.ListN.{length, length-append}
-use borrow.Author.Tests.{eqb-true, ltb-true, leb-false}
-use Rattle.base.specs.Tests.{pick, occ}
-use Rattle.base.specs.declared.Refusal.the-variants.{BadBlock, NoCandidate}
+use borrow.Author.Tests.{eqb-true, ne-eqb, ltb-true, leb-false}
+use Rattle.base.specs.Tests.{pick, tabFrom, occ}
+use Rattle.base.specs.declared.Refusal.the-variants.{BadBlock, NoCandidate, NothingFree}
 use Rattle.drive.specs.Address.{pda}
 use Rattle.image.specs.View.{View, Rec, Store, places, put2}
 use Rattle.image.specs.Image.{view}
 use Rattle.image.specs.Saves.{words}
 use Rattle.volume.specs.Words.{nextAt}
 use Rattle.volume.specs.Keys.{home, reach}
-use Rattle.volume.specs.Files.{partitionOf, candidate, len, end, spot, least, size, sound, freeHead}
+use Rattle.volume.specs.Files.{partitionOf, candidate, len, end, spot, least, size, sound, unowned, freeHead}
 use Rattle.volume.specs.declared.Partition.{Partition}
-use Rattle.volume.specs.Plans.{st, stores, newFirst, pibLess, gone, topGone, pibMore, topGoneStores, lastGoneStores, destroyed, freeAt, freeTail, takenStores, createPlan, describePlan, destroyPlan}
+use Rattle.volume.specs.Plans.{st, stores, newFirst, pibLess, gone, topGone, pibMore, topGoneStores, lastGoneStores, destroyed, freeAt, freeTail, takenStores, createPlan, describePlan, destroyPlan, repaired, repairPlan}
 use Rattle.volume.specs.Writes.{needs, writePlan, replacePlan}
-use Rattle.volume.specs.Calls.{Planned, refuse, finish, through, room, Call, create, write, describe, destroy, repair, createIn, appendIn, writeIn, describeIn, destroyIn, planned}
+use Rattle.volume.specs.Calls.{Planned, refuse, finish, unmarred, through, room, Call, create, write, describe, destroy, repair, createIn, appendIn, writeIn, describeIn, destroyIn, repairIn, planned}
+use Rattle.volume.specs.Answers.{lowestMalformed}
+use Rattle.volume.specs.Reads.{in-part}
+use Rattle.volume.specs.declared.Found.{Found}
+use Rattle.volume.specs.declared.Found.the-variants.{At, Nothing}
 use Rattle.volume.specs.declared.Part.{Part}
 use Rattle.volume.specs.declared.Part.the-variants as part
 use Rattle.growth.specs.Promise.{Writing, write-few, write-once}
 use Rattle.change.specs.Gate.{gate, Opens, enters, shut}
-use Rattle.change.specs.Hits.{hit, times, times-append, times-cons, times-none, hit-one, times-plan, length-plan, some-times, some-length, budget, free-two, free-last, file-hits}
+use Rattle.change.specs.Hits.{bit, hit, times, times-append, times-cons, times-none, hit-one, times-plan, length-plan, some-times, some-length, budget, free-two, free-last, file-hits}
 
 -- at most seven stores, none twice in a block
 pub record Orderly (ss : List Store) : Type 0 where
@@ -181,3 +185,61 @@ module _ (d : ℕ) (l : List ℕ) (s : ℕ) where
   orderly (describe f text) n = through-orderly (eqb (length text) 104) _ (λ e o. describe-in e o f (words text))
   orderly (destroy f) n = through-orderly true _ (λ e o. destroy-in e o f)
   orderly repair n = absurd (n refl)
+
+-- ---- repair, and so every call, makes at most one store in a block
+
+-- one store in each of the blocks i, i + 1, ..
+module _ (g : ℕ → Rec) (b : ℕ) where
+  run-low : (i k : ℕ) → b < i → times b (tabFrom i k (λ x. st x (g x))) ≡ 0
+  unfolding tabFrom
+  run-low i zero h = times-none b
+  run-low i (suc k) h =
+      omega (arith, times-cons b (st i (g i)) (tabFrom (suc i) k (λ x. st x (g x))), ap bit (ne-eqb b i (λ z. omega arith)), run-low (suc i) k (omega arith))
+
+  run-once : (i k : ℕ) → times b (tabFrom i k (λ x. st x (g x))) ≤ 1
+  unfolding tabFrom
+  run-once i zero = omega (arith, times-none b)
+  run-once i (suc k) = go (eqb b i) refl (run-once (suc i) k)
+    where
+      rest : List Store
+      rest = tabFrom (suc i) k (λ x. st x (g x))
+
+      go : (t : Bool) → eqb b i ≡ t → times b rest ≤ 1 → times b (st i (g i) ∷ rest) ≤ 1
+      go true q h = omega (arith, times-cons b (st i (g i)) rest, hit-one b i, run-low (suc i) k (omega (arith, eqb-true b i q)))
+      go false q h = omega (arith, times-cons b (st i (g i)) rest, ap bit q)
+
+repair-in : (π : Partition) (v : View) (b : ℕ) → times b (repairIn π v .list) ≤ 1
+unfolding repairIn repairPlan
+repair-in π v b = go (eqb (length (unowned π v)) 0)
+  where
+    g : ℕ → Rec
+    g = repaired π v (unowned π v)
+
+    pib : (t : Bool) → eqb b (π .s) ≡ t → times b (stores (repairPlan π v)) ≤ 1
+    pib true q =
+        omega (arith, times-plan b (repairPlan π v), times-none b, hit-one b (π .s), run-low g b (suc (π .s)) (π .e - π .s) (omega (arith, eqb-true b (π .s) q)))
+    pib false q = omega (arith, times-plan b (repairPlan π v), times-none b, ap bit q, run-once g b (suc (π .s)) (π .e - π .s))
+
+    go : (t : Bool) → times b ((pick t (refuse NothingFree) (finish 0 (repairPlan π v))) .list) ≤ 1
+    go true = omega (arith, times-none b)
+    go false = pib (eqb b (π .s)) refl
+
+module _ (d : ℕ) (l : List ℕ) (s : ℕ) where
+  pub repair-once : (b : ℕ) → occ b (places (planned d l s repair .list)) ≤ 1
+  unfolding planned
+  repair-once b = in-part (λ x. times b (x .list) ≤ 1) refuse none none d l s _ (λ e _. go (partitionOf d s e) (lowestMalformed (partitionOf d s e) (view l)))
+    where
+      none : times b [] ≤ 1
+      none = omega (arith, times-none b)
+
+      go : (π : Partition) (x : Found) → times b (unmarred x (repairIn π (view l)) .list) ≤ 1
+      go π (At f) = none
+      go π Nothing = repair-in π (view l) b
+
+  -- every call, on every image
+  pub once : (call : Call) (b : ℕ) → occ b (places (planned d l s call .list)) ≤ 1
+  once (create kind) b = orderly d l s (create kind) (λ q. let z : _≡_ {A = ℕ} 0 1 = cc in omega arith) .once b
+  once (write f r block) b = orderly d l s (write f r block) (λ q. let z : _≡_ {A = ℕ} 0 1 = cc in omega arith) .once b
+  once (describe f text) b = orderly d l s (describe f text) (λ q. let z : _≡_ {A = ℕ} 0 1 = cc in omega arith) .once b
+  once (destroy f) b = orderly d l s (destroy f) (λ q. let z : _≡_ {A = ℕ} 0 1 = cc in omega arith) .once b
+  once repair b = repair-once b

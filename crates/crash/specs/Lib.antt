@@ -5,6 +5,8 @@ pub mod Statement
 pub mod Theorem
 pub mod Laws
 pub mod Answering
+-- a law of repair: an all-zero partition becomes a fresh one
+pub mod Zeroed
 -- files in two views, a run of stores that is cut, what makes a partition sound, and what its files need
 pub mod SameFile
 pub mod Cut

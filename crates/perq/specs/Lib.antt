@@ -2,3 +2,4 @@ pub mod Flat
 pub mod Fits
 pub mod Named
 pub mod Unique
+pub mod Demand3
