@@ -57,6 +57,11 @@ module _ (π : Partition) (v : View) (f : ℕ) where
       named-is (292 + r) (λ z. omega arith)
       ∙ ap₂ (names π v (pda (π .drive) f)) (entry-at π v f (292 + r) ∙ ap₂ (λ (k x : ℕ). pair v (spot π v f k) x) (w .0 ∙ a) (w .1 ∙ b)) (ap number (let c : 292 + r ≡ 356 + 128 * i + j = omega arith in c))
 
+  -- what code reads of that entry
+  pub entry-is : {own q : ℕ} {r : Bool} (i j : ℕ) → own ≡ pda (π .drive) f → q ≡ spot π v f (288 - i) → j < 128
+      → r ≡ names π v own (pair v q (slotAt j)) (number (356 + 128 * i + j)) → r ≡ named π v f (292 + (64 + 128 * i + j))
+  entry-is i j a b l h = rw (a, b) at h ∙ sym (named-entry i j l)
+
   -- the block of a key, by the entry that code reads
   pub spot-far : (k : ℕ) → 355 < k → spot π v f k ≡ ldaBlock (π .drive) (pair v (spot π v f (288 - (k - 356) / 128)) (slotAt ((k - 356) % 128)))
   spot-far k l =

@@ -8,9 +8,11 @@ ghost use mir.Syntax.{w16};
 ghost use mir.Val.{SFits};
 ghost use Rattle.base.specs.Tests.{pick, all};
 ghost use Rattle.drive.specs.Address.{pda};
+ghost use Rattle.image.specs.View.{pair};
 ghost use Rattle.image.specs.Image.{view};
 ghost use Rattle.image.specs.Signed.{wordOf};
-ghost use Rattle.volume.specs.Keys.{reach};
+ghost use Rattle.volume.specs.Words.{slotAt};
+ghost use Rattle.volume.specs.Keys.{number, reach};
 ghost use Rattle.volume.specs.Files.{len, spot, present, name};
 ghost use Rattle.volume.specs.Reads.{Lies};
 ghost use Rattle.inspect.specs.Form.{names, pointerTest, dataTest, indexGood};
@@ -79,10 +81,10 @@ fn direct_named(img: &[u8], p: Partition, f: usize, own: usize, r: usize) -> boo
     names(img, p, own, x, numbers::number_of(keys::FIRST + r))
 }
 
-// Whether entry j of pointer block i, which is block q, names its block of f.
-fn entry_named(img: &[u8], p: Partition, f: usize, own: usize, q: usize, i: usize, j: usize) -> bool
-    requires { ⌜ (Lies p (now img)) × (q ≤ p .e) × (own ≡ pda (p .drive) f) × (q ≡ spot p (view (now img)) f (288 - i)) × (i < 32) × (j < 128) ⌝ }
-    ensures { λ a. ⌜ a ≡ dataTest p (view (now (img .entry))) f (64 + 128 * i + j) ⌝ }
+// Whether entry j of pointer block i, which is block q, names its block of the file with the address `own`.
+fn entry_named(img: &[u8], p: Partition, own: usize, q: usize, i: usize, j: usize) -> bool
+    requires { ⌜ (Lies p (now img)) × (q ≤ p .e) × (i < 32) × (j < 128) ⌝ }
+    ensures { λ a. ⌜ a ≡ names p (view (now (img .entry))) own (pair (view (now (img .entry))) q (slotAt j)) (number (356 + 128 * i + j)) ⌝ }
 {
     let x = image::pair(img, q, SLOTS + 2 * j);
     names(img, p, own, x, numbers::number_of(356 + 128 * i + j))
@@ -127,7 +129,7 @@ pub fn index_good(img: &[u8], p: Partition, f: usize, n: usize) -> bool
         let q = ptr(img, p, f, i);
         let m = least(n - (64 + 128 * i), 128);
         for j in 0..m {
-            if !entry_named(img, p, f, own, q, i, j) {
+            if !entry_named(img, p, own, q, i, j) {
                 good = false;
                 break 'index;
             }

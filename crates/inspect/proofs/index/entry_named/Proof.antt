@@ -1,6 +1,4 @@
-use mathlib.Core.Path.{sym, _∙_}
 use Rattle.inspect.proofs.Signs.{passed-word, passed-fits, number-small}
-use Rattle.inspect.proofs.Laws.{named-entry}
 use borrow.Author.Needs.{needs}
 use Rattle.inspect.proofs.index.entry_named.Statement.{statement}
 use Rattle.inspect.proofs.index.entry_named.Tie as tie
@@ -9,7 +7,7 @@ names-requires : tie.Need-names-requires
 names-requires c κs = (c .before .before .before .pre .0, passed-fits _ _ (record { sfits = c .number-of .ok }) (c .number-of .ensures))
 
 returns : tie.Need-returns
-returns c = rw (passed-word _ _ (record { sfits = c .before .number-of .ok }) (c .before .number-of .ensures) (number-small _), c .before .before .pair .ensures .0, c .before .before .before .before .pre .2, c .before .before .before .before .pre .3) at (c .names .ensures) ∙ sym (named-entry _ _ _ _ _ (c .before .before .before .before .pre .5))
+returns c = rw (passed-word _ _ (record { sfits = c .before .number-of .ok }) (c .before .number-of .ensures) (number-small _), c .before .before .pair .ensures .0) at (c .names .ensures)
 
 pub entry-named-spec : {M : Type 1} → statement M
 entry-named-spec =

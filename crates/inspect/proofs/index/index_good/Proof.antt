@@ -8,6 +8,7 @@ use Rattle.volume.specs.Keys.{low}
 use Rattle.volume.specs.Reads.{inside-of}
 use Rattle.volume.specs.Steps.{Indexed, index-starts, index-few-fails, index-enter, index-next, index-to, index-end, index-ptr-fails, index-data-fails}
 use Rattle.inspect.specs.Form.{pointerTest, dataTest, indexGood, named-member}
+use Rattle.inspect.proofs.Laws.{entry-is}
 use Rattle.inspect.proofs.Ways.{ptrs-few, ptrs-below, ptrs-enough, least-reach}
 use borrow.Author.Needs.{needs}
 use Rattle.inspect.proofs.index.index_good.Statement.{statement}
@@ -52,10 +53,10 @@ loop-holds : tie.Need-loop-holds Inv-loop μ-loop Inv-index μ-index
 loop-holds c = (c .before .before .before .before .before .index .inv .0, index-enter (c .before .before .before .before .before .index .inv .1) (c .before .before .before .ptr-named .ensures) (not-false _ (c .before .before .if2 .left)))
 
 entry-named-requires : tie.Need-entry-named-requires Inv-loop μ-loop Inv-index μ-index
-entry-named-requires c κs = let h = c .before .before .before .before .before .before .before .before .before .before .before .before .before .before .before .pre in (h .0, rw (c .before .before .before .ptr .ensures .0) (inside-of _ _ (named-member _ _ _ _ (sym (c .before .before .before .before .before .ptr-named .ensures) ∙ not-false _ (c .before .before .before .before .if2 .left)) .ins) .1), c .before .before .before .before .before .before .before .before .before .before .before .before .before .pda .ensures, c .before .before .before .ptr .ensures .0, omega (arith, ptrs-few _ _ (c .before .before .before .before .before .before .before .before .less .ensures ∙ ap (λ (x : ℕ). 289 - x) (c .before .before .before .before .before .before .before .before .before .low .ensures .0)) (h .2)), omega (arith, c .before .before .least2 .ensures .2))
+entry-named-requires c κs = let h = c .before .before .before .before .before .before .before .before .before .before .before .before .before .before .before .pre in (h .0, rw (c .before .before .before .ptr .ensures .0) (inside-of _ _ (named-member _ _ _ _ (sym (c .before .before .before .before .before .ptr-named .ensures) ∙ not-false _ (c .before .before .before .before .if2 .left)) .ins) .1), omega (arith, ptrs-few _ _ (c .before .before .before .before .before .before .before .before .less .ensures ∙ ap (λ (x : ℕ). 289 - x) (c .before .before .before .before .before .before .before .before .before .low .ensures .0)) (h .2)), omega (arith, c .before .before .least2 .ensures .2))
 
 loop-again : tie.Need-loop-again Inv-loop μ-loop Inv-index μ-index
-loop-again c = (c .before .before .before .loop .inv .0, index-next (c .before .before .before .loop .inv .1) (c .before .entry-named .ensures) (not-false _ (c .if3 .left)) _ (omega arith))
+loop-again c = (c .before .before .before .loop .inv .0, index-next (c .before .before .before .loop .inv .1) (entry-is _ _ _ _ _ (c .before .before .before .before .before .before .before .before .before .before .before .before .before .before .before .pda .ensures) (c .before .before .before .before .before .ptr .ensures .0) (omega (arith, c .before .before .before .before .least2 .ensures .2)) (c .before .entry-named .ensures)) (not-false _ (c .if3 .left)) _ (omega arith))
 
 index-again : tie.Need-index-again Inv-loop μ-loop Inv-index μ-index
 index-again c = (c .before .loop .inv .0, index-to (c .before .loop .inv .1) _ (λ r l u. least-reach _ _ _ _ r (c .before .before .least2 .ensures .0) (c .loop-test .left) l (omega arith)))
@@ -70,7 +71,7 @@ returns-3 c = index-ptr-fails (c .before .before .before .index .inv .1) (rw (c 
 
 returns-4 : tie.Need-returns-4 Inv-loop μ-loop Inv-index μ-index
 unfolding indexGood
-returns-4 c = index-data-fails (c .before .before .before .loop .inv .1) (let h = c .before .before .before .before .least2 .ensures .1 in let j = c .before .before .loop-test .taken in omega arith) (c .before .entry-named .ensures) (not-true _ (c .if3 .taken))
+returns-4 c = index-data-fails (c .before .before .before .loop .inv .1) (let h = c .before .before .before .before .least2 .ensures .1 in let j = c .before .before .loop-test .taken in omega arith) (entry-is _ _ _ _ _ (c .before .before .before .before .before .before .before .before .before .before .before .before .before .before .before .pda .ensures) (c .before .before .before .before .before .ptr .ensures .0) (omega (arith, c .before .before .before .before .least2 .ensures .2)) (c .before .entry-named .ensures)) (not-true _ (c .if3 .taken))
 
 pub index-good-spec : {M : Type 1} → statement M
 index-good-spec =
