@@ -9,6 +9,9 @@ pub mod entry; // entry.rt: what an entry is, and the root
 mod find; // find.rt: an entry by its name
 mod look; // look.rt: look up of a path
 
+// How many levels are looked into, the root the first.
+pub const LEVELS: usize = 9;
+
 // What an entry of a directory is: not taken; or taken, with 0 for a file, 1 for a directory or 2 for dangling, and the target's LBN, 0 if dangling.
 pub enum Met {
     Skip,

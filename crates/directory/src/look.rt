@@ -7,6 +7,7 @@ ghost use Rattle.image.specs.Image.{view};
 ghost use Rattle.volume.specs.Files.{isFile};
 ghost use Rattle.volume.specs.Reads.{Lies};
 ghost use Rattle.directory.specs.Directory.{isRule, selected, partEnd, entered, look, lookFrom, lookedAs, lookIn};
+use crate::LEVELS;
 use crate::Looked;
 use crate::entry;
 use crate::find;
@@ -60,7 +61,7 @@ fn look(img: &[u8], p: Partition, rule: &[u8], root: usize, path: &[u8]) -> Look
     let n = path.len();
     let mut f = root;
     let mut at = 0;
-    for d in 0usize..9 {
+    for d in 0usize..LEVELS {
         let q = part_end(path, at);
         let x = enter(img, p, rule, f, &path[at..q]);
         match x {

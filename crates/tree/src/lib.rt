@@ -11,6 +11,7 @@ ghost use Rattle.directory.specs.Directory.{isRule, mostRows, treeRoot, treeIn,
 ghost use Rattle.image.specs.Stores.{lay};
 ghost use Rattle.volume.specs.declared.Found.the-variants.{At};
 use base::Refusal;
+use directory::LEVELS;
 use directory::Walk;
 use directory::entry;
 use volume::Found;
@@ -35,14 +36,14 @@ fn tree_from(img: &[u8], p: Partition, rule: &[u8], root: usize, rows: &mut [u8]
     ensures { λ a. ⌜ (a ≡ treeRoot p (now (img .entry)) (now (rule .entry)) (length (now (rows .entry))) (At root) .outcome) × (now (rows .exit) ≡ lay (now (rows .entry)) 0 (treeRoot p (now (img .entry)) (now (rule .entry)) (length (now (rows .entry))) (At root) .rows)) ⌝ }
 {
     let most = most_rows(rows.len());
-    let x = walk::walk(rows, img, p, rule, 9, root, most, 0, false);
+    let x = walk::walk(rows, img, p, rule, LEVELS, root, most, 0, false);
     match x {
         Walk::Going(n) => {
-            walk::walk(rows, img, p, rule, 9, root, most, 0, true);
+            walk::walk(rows, img, p, rule, LEVELS, root, most, 0, true);
             Outcome::Done(n, 0, 0)
         }
         Walk::Stopped(n) => {
-            walk::walk(rows, img, p, rule, 9, root, most, 0, true);
+            walk::walk(rows, img, p, rule, LEVELS, root, most, 0, true);
             Outcome::Done(n, 1, 0)
         }
         Walk::Deep(f) => Outcome::Refused(Refusal::TooDeep(f)),
