@@ -7,11 +7,19 @@ pub const RECORD: usize = 528;
 
 const LONGEST: usize = 24 * RECORD;
 
-// A verdict, with the image's bytes and its partition's first block, each 0 where it is not known.
+// What is found of a file: the verdict on its only partition; or that it has several, is longer than this program takes, or is not read.
+pub enum Finding {
+    Came(Verdict),
+    Several,
+    Long,
+    Unread,
+}
+
+// A finding, with the image's bytes and its partition's first block, each 0 where it is not known.
 pub struct Judged {
     pub length: usize,
     pub s: usize,
-    pub verdict: Verdict,
+    pub finding: Finding,
 }
 
 // The first block of the only good partition, or 0, which names none; or several.
@@ -44,7 +52,7 @@ fn only(img: &[u8], drive: usize) -> Place {
     Place::At(found)
 }
 
-// The verdict on an image.
+// What is found of an image.
 fn image(img: &mut [u8], drive: usize) -> Judged {
     let length = img.len();
     let p = only(img, drive);
@@ -52,30 +60,30 @@ fn image(img: &mut [u8], drive: usize) -> Judged {
         Place::At(s) => Judged {
             length,
             s,
-            verdict: verdict::partition(img, drive, s),
+            finding: Finding::Came(verdict::partition(img, drive, s)),
         },
         Place::Several => Judged {
             length,
             s: 0,
-            verdict: Verdict::Several,
+            finding: Finding::Several,
         },
     }
 }
 
 // A file of which no image was read.
-fn unread(why: Verdict) -> Judged {
+fn unread(why: Finding) -> Judged {
     Judged {
         length: 0,
         s: 0,
-        verdict: why,
+        finding: why,
     }
 }
 
-// The verdict on a file. Past what was read there is nothing, unless the file is longer than the buffer or reading it failed.
+// What is found of a file. Past what was read there is nothing, unless the file is longer than the buffer or reading it failed.
 pub fn file(path: &[u8], drive: usize) -> Judged {
     let fd = os::open_read(path);
     if fd < 0 {
-        return unread(Verdict::Unread);
+        return unread(Finding::Unread);
     }
     let mut img = [0u8; LONGEST];
     let n = io::read_full(fd, &mut img);
@@ -83,10 +91,10 @@ pub fn file(path: &[u8], drive: usize) -> Judged {
     let got = libc::read(fd, &mut past);
     libc::close(fd);
     if got < 0 {
-        return unread(Verdict::Unread);
+        return unread(Finding::Unread);
     }
     if 0 < got {
-        return unread(Verdict::Long);
+        return unread(Finding::Long);
     }
     image(&mut img[..n], drive)
 }

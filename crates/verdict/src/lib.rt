@@ -16,16 +16,13 @@ pub enum Course {
     Refuse(Refusal),
 }
 
-// What came of an image: sound, or repaired by so many stores, with files, owned blocks and free blocks; set aside with a block;
-// refused by a number of the library; or by a program that takes one partition and small images, and cannot read every file.
+// The verdict on a partition: sound, or repaired by so many stores, with files, owned blocks and free blocks; set aside with a block; or
+// refused by a number of the library.
 pub enum Verdict {
     Sound(usize, usize, usize),
     Repaired(usize, usize, usize, usize),
     SetAside(usize),
     Refused(Refusal),
-    Several,
-    Long,
-    Unread,
 }
 
 // What is to be done about a partition that check refuses: 4 is for a person, 5 for repair.
