@@ -1,4 +1,6 @@
 // What comes of an image: it is read, its only partition found, and a verdict given on that.
+ghost use mathlib.Core.Path.{_≡_};
+ghost use Rattle.batch.specs.Found.{good, only, looked};
 use verdict::Verdict;
 use volume::Part;
 
@@ -29,7 +31,9 @@ enum Place {
 }
 
 // Whether a good partition starts at s.
-fn is_good(img: &[u8], drive: usize, s: usize) -> bool {
+fn is_good(img: &[u8], drive: usize, s: usize) -> bool
+    ensures { λ r. ⌜ r ≡ good drive (now (img .entry)) s ⌝ }
+{
     let p = inspect::partition(img, drive, s);
     match p {
         Part::Good(_) => true,
@@ -38,7 +42,9 @@ fn is_good(img: &[u8], drive: usize, s: usize) -> bool {
 }
 
 // Where the only good partition is.
-fn only(img: &[u8], drive: usize) -> Place {
+fn only(img: &[u8], drive: usize) -> Place
+    ensures { λ r. ⌜ r ≡ only drive (now (img .entry)) ⌝ }
+{
     let n = img.len() / RECORD;
     let mut found: usize = 0;
     for s in 0..n {
@@ -52,8 +58,10 @@ fn only(img: &[u8], drive: usize) -> Place {
     Place::At(found)
 }
 
-// What is found of an image.
-fn image(img: &mut [u8], drive: usize) -> Judged {
+// What is found of an image; its only partition is repaired where it is not sound.
+fn image(img: &mut [u8], drive: usize) -> Judged
+    ensures { λ r. ⌜ (r ≡ looked drive (now (img .entry)) .judged) × (now (img .exit) ≡ looked drive (now (img .entry)) .image) ⌝ }
+{
     let length = img.len();
     let p = only(img, drive);
     match p {
