@@ -1,4 +1,6 @@
 // What comes of an image: it is read, its only partition found, and a verdict given on that.
+ghost use mathlib.Core.Path.{_≡_};
+ghost use Rattle.batch.specs.Found.{good, only, looked};
 use verdict::Verdict;
 use volume::Part;
 
@@ -7,11 +9,19 @@ pub const RECORD: usize = 528;
 
 const LONGEST: usize = 24 * RECORD;
 
-// A verdict, with the image's bytes and its partition's first block, each 0 where it is not known.
+// What is found of a file: the verdict on its only partition; or that it has several, is longer than this program takes, or is not read.
+pub enum Finding {
+    Came(Verdict),
+    Several,
+    Long,
+    Unread,
+}
+
+// A finding, with the image's bytes and its partition's first block, each 0 where it is not known.
 pub struct Judged {
     pub length: usize,
     pub s: usize,
-    pub verdict: Verdict,
+    pub finding: Finding,
 }
 
 // The first block of the only good partition, or 0, which names none; or several.
@@ -21,7 +31,9 @@ enum Place {
 }
 
 // Whether a good partition starts at s.
-fn is_good(img: &[u8], drive: usize, s: usize) -> bool {
+fn is_good(img: &[u8], drive: usize, s: usize) -> bool
+    ensures { λ r. ⌜ r ≡ good drive (now (img .entry)) s ⌝ }
+{
     let p = inspect::partition(img, drive, s);
     match p {
         Part::Good(_) => true,
@@ -30,7 +42,9 @@ fn is_good(img: &[u8], drive: usize, s: usize) -> bool {
 }
 
 // Where the only good partition is.
-fn only(img: &[u8], drive: usize) -> Place {
+fn only(img: &[u8], drive: usize) -> Place
+    ensures { λ r. ⌜ r ≡ only drive (now (img .entry)) ⌝ }
+{
     let n = img.len() / RECORD;
     let mut found: usize = 0;
     for s in 0..n {
@@ -44,38 +58,40 @@ fn only(img: &[u8], drive: usize) -> Place {
     Place::At(found)
 }
 
-// The verdict on an image.
-fn image(img: &mut [u8], drive: usize) -> Judged {
+// What is found of an image; its only partition is repaired where it is not sound.
+fn image(img: &mut [u8], drive: usize) -> Judged
+    ensures { λ r. ⌜ (r ≡ looked drive (now (img .entry)) .judged) × (now (img .exit) ≡ looked drive (now (img .entry)) .image) ⌝ }
+{
     let length = img.len();
     let p = only(img, drive);
     match p {
         Place::At(s) => Judged {
             length,
             s,
-            verdict: verdict::partition(img, drive, s),
+            finding: Finding::Came(verdict::partition(img, drive, s)),
         },
         Place::Several => Judged {
             length,
             s: 0,
-            verdict: Verdict::Several,
+            finding: Finding::Several,
         },
     }
 }
 
 // A file of which no image was read.
-fn unread(why: Verdict) -> Judged {
+fn unread(why: Finding) -> Judged {
     Judged {
         length: 0,
         s: 0,
-        verdict: why,
+        finding: why,
     }
 }
 
-// The verdict on a file. Past what was read there is nothing, unless the file is longer than the buffer or reading it failed.
+// What is found of a file. Past what was read there is nothing, unless the file is longer than the buffer or reading it failed.
 pub fn file(path: &[u8], drive: usize) -> Judged {
     let fd = os::open_read(path);
     if fd < 0 {
-        return unread(Verdict::Unread);
+        return unread(Finding::Unread);
     }
     let mut img = [0u8; LONGEST];
     let n = io::read_full(fd, &mut img);
@@ -83,10 +99,10 @@ pub fn file(path: &[u8], drive: usize) -> Judged {
     let got = libc::read(fd, &mut past);
     libc::close(fd);
     if got < 0 {
-        return unread(Verdict::Unread);
+        return unread(Finding::Unread);
     }
     if 0 < got {
-        return unread(Verdict::Long);
+        return unread(Finding::Long);
     }
     image(&mut img[..n], drive)
 }

@@ -2,7 +2,7 @@
 // malformed file block set aside for a person, and the rest refused. Its words come in twos: an image's file and its drive. No file is
 // written, and one that is bad does not stop the rest. The words of the report are those of the tool.
 ghost use Prim.Native.Nat.{_<_};
-use verdict::Verdict;
+use crate::judge::Finding;
 
 mod judge; // judge.rt: what comes of an image
 mod table; // table.rt: the report
@@ -26,8 +26,8 @@ fn more(n: usize, is_one: bool) -> usize {
 }
 
 // The counts with one more image.
-fn counted(c: Counts, v: Verdict) -> Counts {
-    let rank = table::rank(v);
+fn counted(c: Counts, f: Finding) -> Counts {
+    let rank = table::rank(f);
     Counts {
         sound: more(c.sound, rank == table::SOUND),
         repaired: more(c.repaired, rank == table::REPAIRED),
@@ -56,14 +56,14 @@ fn drive(i: usize) -> usize {
 }
 
 // Judges the image that word i names, on the drive of the word behind it, and writes its line.
-fn image(i: usize) -> Verdict
+fn image(i: usize) -> Finding
     requires { ⌜ i < 18446744073709551615 ⌝ }
 {
     let mut name = io::buffer();
     let n = os::arg(i, &mut name);
     let judged = judge::file(&name[..n], drive(i + 1));
     table::line(&name[..n], judged);
-    judged.verdict
+    judged.finding
 }
 
 // Goes over all images, and answers the counts.

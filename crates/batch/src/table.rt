@@ -1,4 +1,5 @@
 // The report in the words of the tool: a line for each image, and the counts.
+use crate::judge::Finding;
 use crate::judge::Judged;
 use crate::judge::RECORD;
 use libc::STDOUT_FILENO;
@@ -17,15 +18,22 @@ pub const REFUSED: usize = 3;
 const NAMES: usize = 13;
 
 // The place of a verdict's outcome in that order.
-pub fn rank(v: Verdict) -> usize {
+fn place(v: Verdict) -> usize {
     match v {
         Verdict::Sound(_, _, _) => SOUND,
         Verdict::Repaired(_, _, _, _) => REPAIRED,
         Verdict::SetAside(_) => SET_ASIDE,
         Verdict::Refused(_) => REFUSED,
-        Verdict::Several => REFUSED,
-        Verdict::Long => REFUSED,
-        Verdict::Unread => REFUSED,
+    }
+}
+
+// The place of a finding's outcome: without a verdict it is refused.
+pub fn rank(f: Finding) -> usize {
+    match f {
+        Finding::Came(v) => place(v),
+        Finding::Several => REFUSED,
+        Finding::Long => REFUSED,
+        Finding::Unread => REFUSED,
     }
 }
 
@@ -122,7 +130,7 @@ fn sentence(n: usize, length: usize, s: usize) {
     }
 }
 
-// What is said of an image of so many bytes, or of its partition at s.
+// What is said of a verdict.
 fn remark(length: usize, s: usize, v: Verdict) {
     match v {
         Verdict::Sound(files, owned, free) => held(files, owned, free),
@@ -136,11 +144,18 @@ fn remark(length: usize, s: usize, v: Verdict) {
             about(b"block ", f, b" is a malformed file block");
         }
         Verdict::Refused(why) => sentence(base::number(why) as usize, length, s),
-        Verdict::Several => text(b"more than one good partition, and this program takes one"),
-        Verdict::Long => text(
+    }
+}
+
+// What is said of a finding on an image of so many bytes, or on its partition at s.
+fn said(length: usize, s: usize, f: Finding) {
+    match f {
+        Finding::Came(v) => remark(length, s, v),
+        Finding::Several => text(b"more than one good partition, and this program takes one"),
+        Finding::Long => text(
             b"the image is longer than 24 records, and this program takes no more",
         ),
-        Verdict::Unread => text(b"cannot read it"),
+        Finding::Unread => text(b"cannot read it"),
     }
 }
 
@@ -148,9 +163,9 @@ fn remark(length: usize, s: usize, v: Verdict) {
 pub fn line(name: &[u8], j: Judged) {
     text(name);
     column(name.len());
-    let v = j.verdict;
-    outcome(rank(v));
-    remark(j.length, j.s, v);
+    let f = j.finding;
+    outcome(rank(f));
+    said(j.length, j.s, f);
     text(b"\n");
 }
 

@@ -1,8 +1,9 @@
--- What comes of a partition: by what check answers it is left, repaired, set aside or refused.
+-- What comes of a partition, the verdict on it and the image that is left: by what check answers it is left alone, repaired, set aside or
+-- refused. Only a repair changes the image.
 use mathlib.Core.List.{List}
 use Prim.Native.Nat.{ℕ}
 use lib.Dec.{eqb}
-use lib.ListN.{length, take}
+use lib.ListN.{length}
 use Rattle.base.specs.Tests.{pick}
 use Rattle.base.specs.Refusals.{number, culprit}
 use Rattle.base.specs.declared.Refusal.{Refusal}
@@ -40,23 +41,25 @@ whereDone (Done a b c) k = k
 whereDone Absent k = came.Refused BadPartition
 whereDone (Refused y) k = came.Refused y
 
--- more stores than a repair has
-abbrev pub allStores : ℕ
-allStores = 32768
+-- a verdict on a partition, and the image as it is left
+pub record Ending : Type 0 where
+  pub verdict : Verdict
+  pub image : List ℕ
 
--- the whole of repair, and check of what it leaves
-unfoldable pub repaired : ℕ → List ℕ → ℕ → Verdict
+-- all of repair's stores, and check of what they leave; a repair that is refused has no store
+unfoldable pub repaired : ℕ → List ℕ → ℕ → Ending
 repaired d l s =
     let p = planned d l s repair in
-    let ss = take allStores (p .list) in
-    whereDone (p .outcome) (mended (length ss) (choice (checked d (stored ss l) s)))
+    let l′ = stored (p .list) l in
+    record { verdict = whereDone (p .outcome) (mended (length (p .list)) (choice (checked d l′ s))); image = l′ }
 
-abbrev pub settled : Course → Verdict → Verdict
-settled (course.Leave files owned free) k = came.Sound files owned free
-settled course.Repair k = k
-settled (course.SetAside f) k = came.SetAside f
-settled (course.Refuse y) k = came.Refused y
+-- repair comes to k; any other course leaves the image l as it was
+abbrev pub followed : List ℕ → Course → Ending → Ending
+followed l (course.Leave files owned free) k = record { verdict = came.Sound files owned free; image = l }
+followed l course.Repair k = k
+followed l (course.SetAside f) k = record { verdict = came.SetAside f; image = l }
+followed l (course.Refuse y) k = record { verdict = came.Refused y; image = l }
 
 -- what comes of the partition at s
-unfoldable pub verdict : ℕ → List ℕ → ℕ → Verdict
-verdict d l s = settled (choice (checked d l s)) (repaired d l s)
+unfoldable pub settled : ℕ → List ℕ → ℕ → Ending
+settled d l s = followed l (choice (checked d l s)) (repaired d l s)

@@ -1,6 +1,7 @@
-// What comes of a partition by what check answers: it is left, repaired and checked again, set aside for a person, or refused.
+// What comes of a partition by what check answers: it is left, repaired and checked again, set aside for a person, or refused. The image
+// is changed by a repair only.
 ghost use mathlib.Core.Path.{_≡_};
-ghost use Rattle.verdict.specs.Choice.{refusal, choice, mended, repaired, verdict};
+ghost use Rattle.verdict.specs.Choice.{refusal, choice, mended, repaired, settled};
 use base::Refusal;
 use volume::Outcome;
 
@@ -16,16 +17,13 @@ pub enum Course {
     Refuse(Refusal),
 }
 
-// What came of an image: sound, or repaired by so many stores, with files, owned blocks and free blocks; set aside with a block;
-// refused by a number of the library; or by a program that takes one partition and small images, and cannot read every file.
+// The verdict on a partition: sound, or repaired by so many stores, with files, owned blocks and free blocks; set aside with a block; or
+// refused by a number of the library.
 pub enum Verdict {
     Sound(usize, usize, usize),
     Repaired(usize, usize, usize, usize),
     SetAside(usize),
     Refused(Refusal),
-    Several,
-    Long,
-    Unread,
 }
 
 // What is to be done about a partition that check refuses: 4 is for a person, 5 for repair.
@@ -65,9 +63,9 @@ fn mended(made: usize, then: Course) -> Verdict
     }
 }
 
-// The verdict on a partition that is not sound: it is repaired, and checked again. Repair never answers absent.
+// The verdict on a partition that is not sound: all of repair's stores are made in it, and it is checked again. Repair never answers absent.
 fn repaired(img: &mut [u8], drive: usize, s: usize) -> Verdict
-    ensures { λ r. ⌜ r ≡ repaired drive (now (img .entry)) s ⌝ }
+    ensures { λ r. ⌜ (r ≡ repaired drive (now (img .entry)) s .verdict) × (now (img .exit) ≡ repaired drive (now (img .entry)) s .image) ⌝ }
 {
     let answer = repair::repair(img, drive, s, ALL);
     let outcome = answer.outcome;
@@ -83,7 +81,7 @@ fn repaired(img: &mut [u8], drive: usize, s: usize) -> Verdict
 
 // The verdict on the partition at s.
 pub fn partition(img: &mut [u8], drive: usize, s: usize) -> Verdict
-    ensures { λ r. ⌜ r ≡ verdict drive (now (img .entry)) s ⌝ }
+    ensures { λ r. ⌜ (r ≡ settled drive (now (img .entry)) s .verdict) × (now (img .exit) ≡ settled drive (now (img .entry)) s .image) ⌝ }
 {
     let course = choice(verify::check(img, drive, s));
     match course {

@@ -1,7 +1,8 @@
 -- `verdict::repaired` meets its contract: what repair answers, what it leaves, and what check says of that. Assumes nothing.
 use mathlib.Core.Path.{_∙_, ap}
 use Rattle.verdict.specs.Choice.{choice, mended}
-use Rattle.verdict.proofs.Laws.{repaired-refused, repaired-absent, repaired-done}
+use Rattle.verdict.proofs.Laws.{repaired-image, repaired-refused, repaired-absent, repaired-done}
+use native.Mathlib.Omega.{arith}
 use borrow.Author.Needs.{needs}
 use Rattle.verdict.proofs.repaired.Statement.{statement}
 use Rattle.verdict.proofs.repaired.Tie as tie
@@ -31,19 +32,28 @@ same-length : tie.Need-same-length
 same-length c = search needs
 
 returns : tie.Need-returns
-returns c = repaired-refused _ _ _ _ _ (c .before .before .before .before .before .repair .ensures) _ (c .before .outcome .given .1)
+returns c =
+    let h = c .before .before .before .before .before .repair .ensures in
+    (repaired-refused _ _ _ _ _ _ h _ (c .before .outcome .given .1), repaired-image _ _ _ _ _ _ h (omega arith))
 
 same-length-2 : tie.Need-same-length-2
 same-length-2 c = search needs
 
 returns-2 : tie.Need-returns-2
-returns-2 c = repaired-absent _ _ _ _ _ (c .before .before .before .before .repair .ensures) (c .enum-told .given .1)
+returns-2 c =
+    let h = c .before .before .before .before .repair .ensures in
+    (repaired-absent _ _ _ _ _ _ h (c .enum-told .given .1), repaired-image _ _ _ _ _ _ h (omega arith))
 
 same-length-3 : tie.Need-same-length-3
 same-length-3 c = search needs
 
 returns-3 : tie.Need-returns-3
-returns-3 c = c .mended .ensures ∙ ap (mended _) (c .before .choice .ensures ∙ ap choice (c .before .before .check .ensures)) ∙ repaired-done _ _ _ _ _ (c .before .before .before .before .before .before .before .before .repair .ensures) _ _ _ (c .before .before .before .before .enum-told2 .given .1)
+returns-3 c =
+    let h = c .before .before .before .before .before .before .before .before .repair .ensures in (
+      c .mended .ensures ∙ ap (mended _) (c .before .choice .ensures ∙ ap choice (c .before .before .check .ensures))
+          ∙ repaired-done _ _ _ _ _ _ h (omega arith) _ _ _ (c .before .before .before .before .enum-told2 .given .1),
+      repaired-image _ _ _ _ _ _ h (omega arith),
+    )
 
 pub repaired-spec : {M : Type 1} → statement M
 repaired-spec =
