@@ -112,16 +112,18 @@ refused-alone d s l c h k = go (planned d l s c) (comes d s l c) h
 pub effect : (d s : ℕ) (l : List ℕ) → Image l → Accepted d s l → (c : Call) → Proper c → isDone (planned d l s c .outcome) ≡ true → Effect (here d s l) c (view l) (view (whole d s l c))
 effect d s l b a c p q =
     subst (λ (e : ℕ). Effect (partitionOf d s e) c (view l) (view (whole d s l c))) (sym (end-is h))
-    (subst (Effect (partitionOf d s (y .end)) c (view l)) (sym (whole-view h (y .is) c p)) (go (planned d l s c) (settled h (y .is) c p) q))
+    (subst (Effect π c (view l)) (sym (whole-view h (y .is) c p)) (go (planned d l s c) (settled h (y .is) c p) q))
   where
     y : Sound d s l
     y = accepted-sound d s l b a
 
-    h : Held d s (y .end) l
+    π : Partition
+    π = partitionOf d s (y .end)
+
+    h : Held (partitionOf d s (y .end)) l
     h = y .held
 
-    go : (x : Planned) → Settled (partitionOf d s (y .end)) (view l) (block h c) (Effect (partitionOf d s (y .end)) c (view l)) x → isDone (x .outcome) ≡ true
-        → Effect (partitionOf d s (y .end)) c (view l) (after (x .list) (view l))
+    go : (x : Planned) → Settled π (view l) (block h c) (Effect π c (view l)) x → isDone (x .outcome) ≡ true → Effect π c (view l) (after (x .list) (view l))
     go _ (refused z) q = absurd (true≢false (sym q))
     go _ (done a P o) q = o .effect
 
@@ -138,7 +140,7 @@ cut-unmarred d s l b a c p k =
 -- a repair that is not refused is of a good partition without a malformed candidate and with an unowned block
 record Mendable (d s : ℕ) (l : List ℕ) : Type 0 where
   end : ℕ
-  held : Held d s end l
+  held : Held (partitionOf d s end) l
   clean : Clean (partitionOf d s end) (view l)
   spare : unowned (partitionOf d s end) (view l) ≢ []
 
@@ -192,17 +194,18 @@ repair-accepted d s l b h =
     sound-accepted (mended-held (y .held) (y .clean) (y .spare))
     (ap (sound (partitionOf d s (y .end))) (mended-view (y .held) (y .clean) (y .spare)) ∙ sound-is (partitionOf d s (y .end)) (view l) (y .clean) (y .spare) (placed (y .held) .low) (placed (y .held) .pos))
 
-records : (d s e : ℕ) (l : List ℕ) → Held d s e l → length l ≡ 528 * (length l / 528)
+records : {π : Partition} {l : List ℕ} → Held π l → length l ≡ 528 * (length l / 528)
 unfolding partition imageGood
-records d s e l h = go (imageGood d (length l)) refl (partGood d (length l / 528) (view l) s) (h .good)
+records {π} {l} h = go (imageGood π.drive (length l)) refl (partGood π.drive (length l / 528) (view l) π.s) (h .good)
   where
-    go : (t : Bool) → imageGood d (length l) ≡ t → (u : Bool) → pick t (pick u (part.Good (endOf d (view l) s)) (part.Refused BadPartition)) (part.Refused BadImage) ≡ part.Good e → length l ≡ 528 * (length l / 528)
+    go : (t : Bool) → imageGood π.drive (length l) ≡ t → (u : Bool) → pick t (pick u (part.Good (endOf π.drive (view l) π.s)) (part.Refused BadPartition)) (part.Refused BadImage) ≡ part.Good π.e
+        → length l ≡ 528 * (length l / 528)
     go true q u z = let k : length l % 528 ≡ 0 = eqb-true _ _ (every-at _ q 2) in omega arith
     go false q u z = let y : _≡_ {A = ℕ} 0 1 = cc in absurd (omega arith)
 
 -- repairing a repaired image again changes no byte
 pub repair-again : (d s : ℕ) (l : List ℕ) → Image l → isDone (planned d l s repair .outcome) ≡ true → whole d s (whole d s l repair) repair ≡ whole d s l repair
-repair-again d s l b h = view-settles (whole d s m repair) m (length m / 528) (same-length ∙ records d s (y .end) m hm) (records d s (y .end) m hm) (hm₂ .bytes) (hm .bytes) (λ x w _ _. ap (λ (u : View). u x w) same-view)
+repair-again d s l b h = view-settles (whole d s m repair) m (length m / 528) (same-length ∙ records hm) (records hm) (hm₂ .bytes) (hm .bytes) (λ x w _ _. ap (λ (u : View). u x w) same-view)
   where
     y : Mendable d s l
     y = mendable d s l b h
@@ -213,7 +216,7 @@ repair-again d s l b h = view-settles (whole d s m repair) m (length m / 528) (s
     m : List ℕ
     m = whole d s l repair
 
-    hm : Held d s (y .end) m
+    hm : Held π m
     hm = mended-held (y .held) (y .clean) (y .spare)
 
     vm : view m ≡ after (repairStores π (view l)) (view l)
@@ -228,7 +231,7 @@ repair-again d s l b h = view-settles (whole d s m repair) m (length m / 528) (s
     nm : unowned π (view m) ≢ []
     nm = spare-block π (view m) ok
 
-    hm₂ : Held d s (y .end) (whole d s m repair)
+    hm₂ : Held π (whole d s m repair)
     hm₂ = mended-held hm cm nm
 
     reached : restart.Part π (view l) (y .clean) (after (repairStores π (view l)) (view l))
