@@ -15,10 +15,9 @@ use Rattle.image.specs.Saves.{words}
 use Rattle.image.specs.Image.{view, Bytes}
 use Rattle.volume.specs.Files.{partitionOf, unowned, freeHead, sound}
 use Rattle.volume.specs.declared.Partition.{Partition}
-use Rattle.volume.specs.Frame.{Clean}
+use Rattle.volume.specs.Frame.{Clean, of-clean}
 use Rattle.volume.specs.Plans.{repairPlan}
 use Rattle.frame.specs.Sound.{sound-clean}
-use Rattle.frame.specs.Clean.{of-clean}
 use Rattle.base.specs.declared.Refusal.the-variants.{BadBuffer, Unsound, NothingFree}
 use Rattle.volume.specs.Answers.{partition, lowestMalformed, checked, checkIn, checkClean, tallied, inPartition}
 use Rattle.volume.specs.Calls.{Call, create, write, describe, destroy, repair, Planned, refuse, finish, planned, through, unmarred, repairIn, createIn, writeIn, describeIn, destroyIn}

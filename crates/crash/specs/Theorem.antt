@@ -5,18 +5,17 @@ use mathlib.Core.List.{List, [], _∷_}
 use mathlib.Core.Bool.{Bool, true, false, true≢false}
 use Prim.Native.Nat.{ℕ, _+_}
 use native.Mathlib.Omega.{arith}
-use lib.Dec.{leb, ltb, eqb}
+use lib.Dec.{ltb, eqb}
 use lib.ListN.{take, length}
-use borrow.Author.Tests.{ltb-true, eqb-true, eqb-false}
-use Rattle.base.specs.Tests.{pick, both}
-use Rattle.base.specs.Laws.{both-left}
+use borrow.Author.Tests.{eqb-true, eqb-false}
+use Rattle.base.specs.Tests.{pick}
+use Rattle.base.specs.Laws.{never}
 use Rattle.image.specs.View.{View, Store, after}
 use Rattle.image.specs.Image.{view}
-use Rattle.volume.specs.Files.{partitionOf, unowned, inside, candidate, present, spot, name, wellFormed, isFile, sound}
+use Rattle.volume.specs.Files.{partitionOf, unowned, present, spot, name, isFile, sound}
 use Rattle.volume.specs.declared.Partition.{Partition}
 use Rattle.volume.specs.Frame.{Clean}
 use Rattle.volume.specs.Plans.{repairStores}
-use Rattle.frame.specs.Soft.{cand-in}
 use Rattle.frame.specs.Turn.{Each, each-take}
 use Rattle.volume.specs.Calls.{Call, create, write, describe, destroy, repair, Planned, planned, decided}
 use Rattle.volume.specs.declared.Found.the-variants.{At}
@@ -32,6 +31,8 @@ use Rattle.crash.specs.Effect.{Effect}
 use Rattle.crash.specs.Held.{Held, placed, end-is, view-after, length-after, held-after}
 use Rattle.crash.specs.Accepting.{Sound, sound-accepted, accepted-sound, block, settled, repair-is}
 use Rattle.crash.specs.Statement.{Proper, AllProper, isDone, stopped, whole, runs, Repairs, none, again, here, SameContent, SameFile, named, Survives, Demand3}
+use Rattle.volume.specs.Reads.{candidate-in}
+use Rattle.volume.specs.Index.{file-candidate}
 
 -- ---- a file that is the same in two views of one partition is the same in the images
 
@@ -68,12 +69,7 @@ module _ {π : Partition} {l l′ : List ℕ} (h : Held π l) (h′ : Held π l�
 
 -- block 0 is a file in no partition
 zero-no : (ρ : Partition) (v : View) → isFile ρ v 0 ≡ false
-unfolding isFile both inside
-zero-no ρ v = ap (λ (t : Bool). both t (wellFormed ρ v 0)) (go (candidate ρ v 0) refl)
-  where
-    go : (t : Bool) → candidate ρ v 0 ≡ t → t ≡ false
-    go true q = absurd (omega (arith, ltb-true ρ.s 0 (both-left (ltb ρ.s 0) (leb 0 ρ.e) (cand-in ρ v 0 q))))
-    go false q = refl
+zero-no ρ v = never _ (λ q. omega (arith, candidate-in ρ v 0 (file-candidate ρ v 0 q) .0))
 
 no-zero : (ρ : Partition) (v w : View) → views.SameFile ρ v w 0
 no-zero ρ v w = file-same ρ v w 0 (zero-no ρ v ∙ sym (zero-no ρ w)) (λ i. absurd (true≢false (sym i ∙ zero-no ρ v)))
