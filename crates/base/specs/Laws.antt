@@ -1,13 +1,14 @@
--- Laws of the tests: a conjunction and a bounded quantifier, taken apart, made, and rewritten.
+-- Laws of the tests: a conjunction and a bounded quantifier, taken apart, made, and rewritten; a test that cannot hold; a count.
 use mathlib.Core.Path.{_≡_, refl, sym, ap₂, subst}
 use mathlib.Core.Logic.{_⊎_, inl, inr}
 use mathlib.Core.List.{List, [], _∷_}
 use lib.ListN.{getD}
 use mathlib.Core.Bool.{Bool, true, false, _&&_}
-use Prim.Native.Nat.{ℕ, zero, suc, _<_}
+use Prim.Native.Nat.{ℕ, zero, suc, _+_, _≤_, _<_}
+use native.Mathlib.Omega.{arith}
 use native.Mathlib.Nat.{le-refl, le-trans, le-suc, not-suc-le-zero, eq-or-lt-of-le, le-of-suc-le-suc}
 use borrow.Author.Tests.{eqb-true}
-use Rattle.base.specs.Tests.{pick, both, every, all, sameRow, sameTable}
+use Rattle.base.specs.Tests.{pick, both, every, all, count, sameRow, sameTable}
 
 pub and-left : (a b : Bool) → (a && b) ≡ true → a ≡ true
 and-left true b h = refl
@@ -40,6 +41,15 @@ unfolding all
 all-same zero P Q h = refl
 all-same (suc k) P Q h = ap₂ _&&_ (h k (le-refl (suc k))) (all-same k P Q (λ i l. h i (le-trans l (le-suc k))))
 
+pub count-most : (k : ℕ) (P : ℕ → Bool) → count k P ≤ k
+unfolding count
+count-most zero P = omega arith
+count-most (suc k) P = go (P k) (count-most k P)
+  where
+    go : (t : Bool) → count k P ≤ k → pick t 1 0 + count k P ≤ suc k
+    go true ih = omega arith
+    go false ih = omega arith
+
 -- a choice, branch by branch
 pub pick-same : {A : Type 0} (t : Bool) {a a′ b b′ : A} → (t ≡ true → a ≡ a′) → (t ≡ false → b ≡ b′) → pick t a b ≡ pick t a′ b′
 pick-same true p q = p refl
@@ -67,6 +77,11 @@ every-at (x ∷ xs) h (suc i) = every-at xs (and-right x (every xs) h) i
 
 pub cons-same : {a b : Bool} {l m : List Bool} → a ≡ b → l ≡ m → _≡_ {A = List Bool} (a ∷ l) (b ∷ m)
 cons-same p q = λ i. p i ∷ q i
+
+-- a test that cannot hold
+pub never : (t : Bool) → (t ≡ true → ⊥) → t ≡ false
+never true h = absurd (h refl)
+never false h = refl
 
 pub iff-eq : (a b : Bool) → (a ≡ true → b ≡ true) → (b ≡ true → a ≡ true) → a ≡ b
 iff-eq true b f g = sym (f refl)

@@ -16,7 +16,7 @@ use Rattle.volume.specs.Plans.{shaped, content, relinked}
 use Rattle.inspect.specs.Parts.{Opened}
 use Rattle.inspect.proofs.Laws.{opened-few}
 use Rattle.links.proofs.Laws.{opened}
-use Rattle.blocks.specs.Fits.{next-small, prev-small}
+use Rattle.frame.specs.Fitted.{next-small, prev-small}
 use Rattle.blocks.specs.Ready.{Ready}
 
 -- block b is key k of file f, which has n blocks: the file can be read, the links are pairs of words, and the record that they make is

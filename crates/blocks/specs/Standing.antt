@@ -5,9 +5,10 @@ use mathlib.Core.List.{List, [], _∷_, _++_, append-nil}
 use mathlib.Core.Bool.{Bool, true, false}
 use Prim.Native.Nat.{ℕ, zero, suc, _+_, _-_, _≤_, _<_}
 use native.Mathlib.Omega.{arith}
-use lib.ListN.{length}
+use lib.ListN.{length, length-append}
 use Rattle.base.specs.Tests.{pick, those, lastOf, headOf, above, below}
-use Rattle.frame.specs.Chain.{above-those, below-those, head-least}
+use Rattle.frame.specs.Chain.{above-those, below-those, head-least, length-most}
+use Rattle.frame.specs.Joined.{last-both}
 
 -- at block b: the last one below b, or 0; the first from b on, or 0; and how many are below b
 pub record Standing (P : ℕ → Bool) (s e b last next count : ℕ) : Type 0 where
@@ -56,23 +57,9 @@ module _ (P : ℕ → Bool) where
       go true a = omega arith
       go false a = omega arith
 
-  length-most : (i k : ℕ) → length (those i k P) ≤ k
-  unfolding those
-  length-most i zero = omega arith
-  length-most i (suc k) = go (P i) (length-most (suc i) k)
-    where
-      go : (t : Bool) → length (those (suc i) k P) ≤ k → length (pick t (i ∷ those (suc i) k P) (those (suc i) k P)) ≤ suc k
-      go true h = omega arith
-      go false h = omega arith
-
 last-snoc : (d y : ℕ) (xs : List ℕ) → lastOf d (xs ++ (y ∷ [])) ≡ y
 unfolding lastOf
-last-snoc d y [] = refl
-last-snoc d y (x ∷ xs) = last-snoc x y xs
-
-length-snoc : (y : ℕ) (xs : List ℕ) → length (xs ++ (y ∷ [])) ≡ length xs + 1
-length-snoc y [] = refl
-length-snoc y (x ∷ xs) = omega (arith, length-snoc y xs)
+last-snoc d y xs = last-both d xs (y ∷ [])
 
 pub stand-starts : (P : ℕ → Bool) (s e first : ℕ) → s < e → first ≡ headOf 0 (those (suc s) (e - s) P) → Standing P s e (suc s) 0 first 0
 unfolding those lastOf
@@ -136,7 +123,7 @@ module _ {P : ℕ → Bool} {s e b last next count : ℕ} (g : Standing P s e b 
       record {
         behind = sym (ap (lastOf 0) l ∙ last-snoc 0 b below-b);
         ahead = j;
-        many = ap (λ (n : ℕ). n + 1) (g .many) ∙ sym (ap length l ∙ length-snoc b below-b);
+        many = ap (λ (n : ℕ). n + 1) (g .many) ∙ sym (ap length l ∙ length-append below-b (b ∷ []));
       }
 
   pub stand-past : P b ≡ false → Standing P s e (b + 1) last next count

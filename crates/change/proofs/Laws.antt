@@ -1,11 +1,9 @@
 -- What an open gate gives the calls behind it: where the blocks lie that they read and store, and what answers them.
 use mathlib.Core.Path.{_≡_, refl, ap, _∙_}
 use mathlib.Core.List.{List}
-use mathlib.Core.Bool.{Bool, true, false}
-use Prim.Native.Nat.{ℕ, zero, suc, _-_, _≤_, _<_}
+use mathlib.Core.Bool.{true, false}
+use Prim.Native.Nat.{ℕ, suc, _-_, _≤_, _<_}
 use native.Mathlib.Omega.{arith}
-use lib.Dec.{eqb}
-use lib.ListN.{length}
 use lib.Seq.{take-nil}
 use borrow.Author.Tests.{le-leb, lt-leb}
 use Rattle.base.specs.Tests.{occ}
@@ -17,7 +15,7 @@ use Rattle.image.specs.Image.{view}
 use Rattle.image.specs.Stores.{stored}
 use Rattle.image.specs.Saves.{Made}
 use Rattle.volume.specs.Words.{nextAt, numberFreeAt}
-use Rattle.volume.specs.Files.{candidate, free, freeHead, chain}
+use Rattle.volume.specs.Files.{candidate, free, freeHead}
 use Rattle.volume.specs.declared.Partition.{Partition}
 use Rattle.volume.specs.Plans.{Plan, stores, freeAt, freeTail, takenStores, createPlan, describePlan}
 use Rattle.volume.specs.Calls.{Planned, refuse, finish, room, createIn, describeIn, Answered}
@@ -30,6 +28,7 @@ use Rattle.inspect.proofs.Laws.{wf-opened}
 use Rattle.records.specs.Records.{Block, created, described}
 use Rattle.records.proofs.Laws.{block-in}
 use Rattle.change.specs.Gate.{Opens, refusal, completion}
+use Rattle.frame.specs.Chain.{chain-short}
 
 -- ---- answers
 
@@ -45,17 +44,6 @@ answered-done q h m e = rw (h, e) (record { outcome = refl; made = m .count; ima
 
 pub answered-as : {limit : ℕ} {p q : Planned} {l l′ : List ℕ} {a : Answer} → p ≡ q → Answered limit q l l′ a → Answered limit p l l′ a
 answered-as h x = rw h x
-
--- ---- the free chain
-
-chain-few : (π : Partition) (v : View) (n b : ℕ) → length (chain π v n b) ≤ n
-unfolding chain
-chain-few π v zero b = omega arith
-chain-few π v (suc n) b = go (eqb (pair v b nextAt) 0) refl (chain-few π v n _)
-  where
-    go : (t : Bool) → eqb (pair v b nextAt) 0 ≡ t → length (chain π v n (pdaBlock (π .drive) (pair v b nextAt))) ≤ n → length (chain π v (suc n) b) ≤ suc n
-    go true q h = rw (chain, q) (omega arith)
-    go false q h = rw (chain, q) (omega arith)
 
 -- ---- behind the gate
 
@@ -77,7 +65,7 @@ module _ {π : Partition} {l : List ℕ} (o : Opens π l) where
 
   pub room-few : room π (view l) < 69552
   unfolding free
-  room-few = omega (arith, o .lies .few, chain-few π (view l) ((π .e) - (π .s)) (freeHead π (view l)))
+  room-few = omega (arith, o .lies .few, chain-short π (view l) ((π .e) - (π .s)) (freeHead π (view l)))
 
   pub block-head : Block l (freeHead π (view l))
   block-head = block-free _ (head-free π (view l) (o .sound))

@@ -15,10 +15,9 @@ use Rattle.image.specs.Saves.{words}
 use Rattle.image.specs.Image.{view, Bytes}
 use Rattle.volume.specs.Files.{partitionOf, unowned, freeHead, sound}
 use Rattle.volume.specs.declared.Partition.{Partition}
-use Rattle.volume.specs.Frame.{Clean}
+use Rattle.volume.specs.Frame.{Clean, of-clean}
 use Rattle.volume.specs.Plans.{repairPlan}
 use Rattle.frame.specs.Sound.{sound-clean}
-use Rattle.frame.specs.Clean.{of-clean}
 use Rattle.base.specs.declared.Refusal.the-variants.{BadBuffer, Unsound, NothingFree}
 use Rattle.volume.specs.Answers.{partition, lowestMalformed, checked, checkIn, checkClean, tallied, inPartition}
 use Rattle.volume.specs.Calls.{Call, create, write, describe, destroy, repair, Planned, refuse, finish, planned, through, unmarred, repairIn, createIn, writeIn, describeIn, destroyIn}
@@ -39,21 +38,8 @@ use Rattle.crash.specs.Statement.{Proper, isDone, Accepted}
 -- an image that check accepts, with its end
 pub record Sound (d s : ℕ) (l : List ℕ) : Type 0 where
   pub end : ℕ
-  pub held : Held d s end l
+  pub held : Held (partitionOf d s end) l
   pub is : sound (partitionOf d s end) (view l) ≡ true
-
-module _ {d s e : ℕ} {l : List ℕ} (h : Held d s e l) where
-  abbrev π : Partition
-  π = partitionOf d s e
-
-  abbrev v : View
-  v = view l
-
-  pub sound-accepted : sound (partitionOf d s e) (view l) ≡ true → Accepted d s l
-  unfolding checked checkIn tallied
-  sound-accepted ok =
-      ap (λ (x : Part). isDone (inPartition Refused x (λ e. checkIn (partitionOf d s e) v))) (h .good)
-      ∙ ap (λ (m : Found). isDone (checkClean π v m)) (of-clean π v (sound-clean π v ok)) ∙ ap (λ (t : Bool). isDone (pick t (tallied π v) (Refused Unsound))) ok
 
 pub accepted-sound : (d s : ℕ) (l : List ℕ) → Bytes l → Accepted d s l → Sound d s l
 unfolding checked checkIn
@@ -74,57 +60,57 @@ accepted-sound d s l b h = go (partition d l s) refl h
         on (At f) k = absurd (true≢false (sym k))
         on Nothing k = last (sound π₁ (view l)) k
 
--- ---- what a call comes to
+module _ {π : Partition} {l : List ℕ} (h : Held π l) where
+  pub sound-accepted : sound π (view l) ≡ true → Accepted π.drive π.s l
+  unfolding checked checkIn tallied
+  sound-accepted ok =
+      ap (λ (x : Part). isDone (inPartition Refused x (λ e. checkIn (partitionOf π.drive π.s e) (view l)))) (h .good)
+      ∙ ap (λ (m : Found). isDone (checkClean π (view l) m)) (of-clean π (view l) (sound-clean π (view l) ok)) ∙ ap (λ (t : Bool). isDone (pick t (tallied π (view l)) (Refused Unsound))) ok
 
-module _ {d s e : ℕ} {l : List ℕ} (h : Held d s e l) where
-  abbrev π₂ : Partition
-  π₂ = partitionOf d s e
-
-  abbrev v₂ : View
-  v₂ = view l
+  -- ---- what a call comes to
 
   -- in a sound partition there is no refusal 1, 2, 4 or 5
-  through-is : sound (partitionOf d s e) (view l) ≡ true → (fits : Bool) (k : Partition → Planned) → through d l s fits k ≡ pick fits (k (partitionOf d s e)) (refuse BadBuffer)
+  through-is : sound π (view l) ≡ true → (fits : Bool) (k : Partition → Planned) → through π.drive l π.s fits k ≡ pick fits (k π) (refuse BadBuffer)
   unfolding through
   through-is ok fits k =
-      ap (λ (x : Part). inPartition refuse x (λ e. let ρ = partitionOf d s e in pick fits (unmarred (lowestMalformed ρ v₂) (pick (sound ρ v₂) (k ρ) (refuse Unsound))) (refuse BadBuffer))) (h .good)
-      ∙ ap₂ (λ (m : Found) (t : Bool). pick fits (unmarred m (pick t (k π₂) (refuse Unsound))) (refuse BadBuffer)) (of-clean π₂ v₂ (sound-clean π₂ v₂ ok)) ok
+      ap (λ (x : Part). inPartition refuse x (λ e. let ρ = partitionOf π.drive π.s e in pick fits (unmarred (lowestMalformed ρ (view l)) (pick (sound ρ (view l)) (k ρ) (refuse Unsound))) (refuse BadBuffer))) (h .good)
+      ∙ ap₂ (λ (m : Found) (t : Bool). pick fits (unmarred m (pick t (k π) (refuse Unsound))) (refuse BadBuffer)) (of-clean π (view l) (sound-clean π (view l) ok)) ok
 
-  through-settled : sound (partitionOf d s e) (view l) ≡ true → {f : ℕ} {E : View → Type 0} (fits : Bool) (k : Partition → Planned) → (fits ≡ true → Settled (partitionOf d s e) (view l) f E (k (partitionOf d s e)))
-      → Settled (partitionOf d s e) (view l) f E (through d l s fits k)
-  through-settled ok {f} {E} fits k q = subst (Settled π₂ v₂ f E) (sym (through-is ok fits k)) (go fits q)
+  through-settled : sound π (view l) ≡ true → {f : ℕ} {E : View → Type 0} (fits : Bool) (k : Partition → Planned) → (fits ≡ true → Settled π (view l) f E (k π))
+      → Settled π (view l) f E (through π.drive l π.s fits k)
+  through-settled ok {f} {E} fits k q = subst (Settled π (view l) f E) (sym (through-is ok fits k)) (go fits q)
     where
-      go : (t : Bool) → (t ≡ true → Settled π₂ v₂ f E (k π₂)) → Settled π₂ v₂ f E (pick t (k π₂) (refuse BadBuffer))
+      go : (t : Bool) → (t ≡ true → Settled π (view l) f E (k π)) → Settled π (view l) f E (pick t (k π) (refuse BadBuffer))
       go true q = q refl
       go false q = refused BadBuffer
 
   -- the block that a call names or creates; repair names none, and block 0 is no file
   abbrev pub block : Call → ℕ
-  block (create kind) = freeHead (partitionOf d s e) (view l)
+  block (create kind) = freeHead π (view l)
   block (write f r data₀) = f
   block (describe f text) = f
   block (destroy f) = f
   block repair = 0
 
-  repair-through : Clean (partitionOf d s e) (view l) → planned d l s repair ≡ repairIn (partitionOf d s e) (view l)
+  repair-through : Clean π (view l) → planned π.drive l π.s repair ≡ repairIn π (view l)
   unfolding planned
   repair-through c =
-      ap (λ (x : Part). inPartition refuse x (λ e. let ρ = partitionOf d s e in unmarred (lowestMalformed ρ v₂) (repairIn ρ v₂))) (h .good)
-      ∙ ap (λ (m : Found). unmarred m (repairIn π₂ v₂)) (of-clean π₂ v₂ c)
+      ap (λ (x : Part). inPartition refuse x (λ e. let ρ = partitionOf π.drive π.s e in unmarred (lowestMalformed ρ (view l)) (repairIn ρ (view l)))) (h .good)
+      ∙ ap (λ (m : Found). unmarred m (repairIn π (view l))) (of-clean π (view l) c)
 
   -- every call
-  pub settled : sound (partitionOf d s e) (view l) ≡ true → (c : Call) → Proper c → Settled (partitionOf d s e) (view l) (block c) (Effect (partitionOf d s e) c (view l)) (planned d l s c)
+  pub settled : sound π (view l) ≡ true → (c : Call) → Proper c → Settled π (view l) (block c) (Effect π c (view l)) (planned π.drive l π.s c)
   unfolding planned
-  settled ok (create kind) k = through-settled ok true (λ ρ. createIn ρ v₂ kind) (λ _. create-settled π₂ v₂ (placed h) ok kind k)
-  settled ok (write f r bytes) k = through-settled ok (eqb (length bytes) 512) (λ ρ. writeIn ρ v₂ f r (words bytes)) (λ q. write-settled π₂ v₂ (placed h) ok f r (words bytes) (words-of 256 bytes k (eqb-true _ _ q)))
-  settled ok (describe f text) k = through-settled ok (eqb (length text) 104) (λ ρ. describeIn ρ v₂ f (words text)) (λ q. describe-settled π₂ v₂ (placed h) ok f (words text) (words-of 52 text k (eqb-true _ _ q)))
-  settled ok (destroy f) k = through-settled ok true (λ ρ. destroyIn ρ v₂ f) (λ _. destroy-settled π₂ v₂ (placed h) ok f)
-  settled ok repair k = subst (Settled π₂ v₂ 0 (SameFiles π₂ v₂)) (sym (repair-through (sound-clean π₂ v₂ ok))) (repair-settled π₂ v₂ (placed h) ok)
+  settled ok (create kind) k = through-settled ok true (λ ρ. createIn ρ (view l) kind) (λ _. create-settled π (view l) (placed h) ok kind k)
+  settled ok (write f r bytes) k = through-settled ok (eqb (length bytes) 512) (λ ρ. writeIn ρ (view l) f r (words bytes)) (λ q. write-settled π (view l) (placed h) ok f r (words bytes) (words-of 256 bytes k (eqb-true _ _ q)))
+  settled ok (describe f text) k = through-settled ok (eqb (length text) 104) (λ ρ. describeIn ρ (view l) f (words text)) (λ q. describe-settled π (view l) (placed h) ok f (words text) (words-of 52 text k (eqb-true _ _ q)))
+  settled ok (destroy f) k = through-settled ok true (λ ρ. destroyIn ρ (view l) f) (λ _. destroy-settled π (view l) (placed h) ok f)
+  settled ok repair k = subst (Settled π (view l) 0 (SameFiles π (view l))) (sym (repair-through (sound-clean π (view l) ok))) (repair-settled π (view l) (placed h) ok)
 
   -- repair, where no candidate is malformed and a block is not owned
-  pub repair-is : Clean (partitionOf d s e) (view l) → unowned (partitionOf d s e) (view l) ≢ [] → planned d l s repair ≡ finish 0 (repairPlan (partitionOf d s e) (view l))
+  pub repair-is : Clean π (view l) → unowned π (view l) ≢ [] → planned π.drive l π.s repair ≡ finish 0 (repairPlan π (view l))
   unfolding repairIn
-  repair-is c n = repair-through c ∙ ap (λ (t : Bool). pick t (refuse NothingFree) (finish 0 (repairPlan π₂ v₂))) (ne-eqb (length (unowned π₂ v₂)) 0 (some (unowned π₂ v₂) n))
+  repair-is c n = repair-through c ∙ ap (λ (t : Bool). pick t (refuse NothingFree) (finish 0 (repairPlan π (view l)))) (ne-eqb (length (unowned π (view l))) 0 (some (unowned π (view l)) n))
     where
       some : (m : List ℕ) → m ≢ [] → length m ≢ 0
       some [] q z = q refl

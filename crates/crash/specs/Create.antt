@@ -12,19 +12,20 @@ use Rattle.image.specs.View.{upd-same, upd-other, View, Rec, after, upd}
 use Rattle.volume.specs.Keys.{home}
 use Rattle.volume.specs.Files.{inside, candidate, spot, wellFormed, fileOf, owned, free, freeHead, sound}
 use Rattle.volume.specs.declared.Partition.{Partition}
-use Rattle.volume.specs.Index.{spot-home, present-home, own, file-candidate, member-owned}
+use Rattle.volume.specs.Index.{spot-home, present-home, own, file-candidate, member-owned, pib-not}
 use Rattle.volume.specs.Frame.{Clean}
 use Rattle.volume.specs.Plans.{st, asFiller, stores, freeAt, freshFib, newFirst, takenStores, createPlan}
 use Rattle.frame.specs.Reading.{put-off, put2-off}
-use Rattle.frame.specs.Turn.{Each, after-miss, calm-soft, calm-pib, Turn, turn-free, turn-decided}
+use Rattle.frame.specs.Turn.{Each, after-miss, calm-soft, calm-pib, Turn, turn-free, turn-decided, turn-keeps}
 use Rattle.frame.specs.Decides.{Decides, Good}
 use Rattle.frame.specs.Sound.{sound-clean, some-free}
-use Rattle.frame.specs.FreeChain.{Links}
+use Rattle.frame.specs.FreeChain.{Links, links-others}
 use Rattle.frame.specs.Taking.{taken, differ}
 use Rattle.frame.specs.Drawn.{Taken, Drawn, left, drawn-free}
-use Rattle.crash.specs.FreeBlocks.{off-pib, pib-not, soft-links}
-use Rattle.crash.specs.Whole.{own-keep, links-others, W-owned, keeps-sound}
+use Rattle.crash.specs.Whole.{W-owned, keeps-sound}
 use Rattle.crash.specs.Fresh.{fresh-cand, fresh-only, fresh-wf, fresh-links}
+use Rattle.volume.specs.Reads.{off-pib}
+use Rattle.frame.specs.Soft.{soft-links}
 
 -- the new first free block: links and filler alone
 first-links : (d : ℕ) (v : View) (g w : ℕ) → w ≢ 3 → w ≢ 6 → w ≢ 7 → newFirst d v g w ≡ v g w
@@ -104,7 +105,7 @@ module _ (π : Partition) (v : View) (ok : sound π v ≡ true) (room : 1 < leng
     where
       go : (t : Bool) → eqb h a ≡ t → Links π D h
       go true q = subst (Links π D) (sym (eqb-true h a q)) (fresh-links π v D a kind (upd-same v a R))
-      go false q = links-others π v D c a create-turn (λ b o _. upd-other v a R b (λ z. true≢false (sym o ∙ ap (owned π v) z ∙ a-free))) ok h (eqb-false h a q) k
+      go false q = links-others π v D a create-turn ok (λ b o _. upd-other v a R b (λ z. true≢false (sym o ∙ ap (owned π v) z ∙ a-free))) h (eqb-false h a q) k
 
   -- ---- whole, it leaves a sound partition
   module _ (low : π .s < π .e) (pos : 0 < π .s) where
@@ -125,7 +126,7 @@ module _ (π : Partition) (v : View) (ok : sound π v ≡ true) (room : 1 < leng
       first = upd-other (upd D n (newFirst (π .drive) v n)) (π .s) _ n (off-pib π n n-in) ∙ upd-same D n (newFirst (π .drive) v n);
       pib = upd-same (upd D n (newFirst (π .drive) v n)) (π .s) _;
       kept = λ b i o m. other b (m 0 (omega arith)) (m 1 (omega arith)) (λ z. off-pib π b i (sym z));
-      old = λ b h. sym (wo b) ∙ own-keep π v D c a create-turn b h (not-a b h);
+      old = λ b h. sym (wo b) ∙ turn-keeps π v c D a create-turn b h (not-a b h);
       new = new;
       back = λ b h. back b (wo b ∙ h) (eqb b a) refl (owned π v b) refl;
     }

@@ -5,9 +5,9 @@ use mathlib.Core.List.{List, [], _∷_, _++_}
 use mathlib.Core.Bool.{Bool, true, false, true≢false}
 use Prim.Native.Nat.{ℕ, _+_, _*_, _≤_, _<_}
 use native.Mathlib.Omega.{arith}
-use lib.Dec.{ltb, eqb}
+use lib.Dec.{eqb}
 use lib.ListN.{length-append}
-use borrow.Author.Tests.{ltb-true, ltb-false, eqb-true, eqb-false}
+use borrow.Author.Tests.{eqb-true, eqb-false}
 use Rattle.base.specs.Tests.{pick, both, occ}
 use Rattle.drive.specs.Address.{pda, pdaBlock, lda}
 use Rattle.drive.specs.Laws.{pda-pos}
@@ -16,24 +16,26 @@ use Rattle.volume.specs.Words.{nextAt, previousAt}
 use Rattle.volume.specs.Keys.{home}
 use Rattle.volume.specs.Files.{isLda, inside, candidate, len, end, spot, present, least, size, wellFormed, fileOf, owned, free, freeHead, sound}
 use Rattle.volume.specs.declared.Partition.{Partition}
-use Rattle.volume.specs.Index.{spot-home, present-home, wf-of, own, file-candidate, member, file-back}
-use Rattle.volume.specs.Order.{least-is, least-present}
+use Rattle.volume.specs.Index.{spot-home, present-home, wf-of, own, file-candidate, file-back, pib-not}
+use Rattle.volume.specs.Order.{least-present, least-most}
 use Rattle.volume.specs.Frame.{Clean}
 use Rattle.volume.specs.Plans.{st, stores, destroyPlan, destroyed, gone, topGone, fibGone, topGoneStores, lastGoneStores, pibMore, freeTail}
-use Rattle.frame.specs.Soft.{headed, headed-is, headed-zero}
+use Rattle.frame.specs.Soft.{headed, headed-is, headed-zero, soft-links}
 use Rattle.frame.specs.Reading.{two, put2-off, put2-here}
 use Rattle.frame.specs.Repair.{lda-self}
-use Rattle.frame.specs.Turn.{Each, each-append, each-pick, after-each, after-append, after-miss, Calm, calm-soft, calm-free, calm-pib, Turn, turn-free, turn-decided}
+use Rattle.frame.specs.Turn.{Each, each-append, each-pick, after-each, after-append, after-miss, Calm, calm-soft, calm-free, calm-pib, Turn, turn-free, turn-decided, turn-keeps}
 use Rattle.frame.specs.Decides.{Decides, Good}
 use Rattle.frame.specs.Sound.{tail-free, sound-clean, sound-once, sound-within, sound-head, sound-number, free-in, free-not, sound-some, some-free}
-use Rattle.frame.specs.FreeChain.{IsFree}
+use Rattle.frame.specs.FreeChain.{IsFree, links-others}
 use Rattle.frame.specs.Taking.{occ-append}
 use Rattle.frame.specs.Listed.{blocks, blocks-length, within-blocks, last-blocks}
-use Rattle.crash.specs.Whole.{own-keep, links-others, W-owned, keeps-sound}
-use Rattle.crash.specs.FreeBlocks.{off-pib, pib-not, soft-links, first-free, first-in, own-file, free≢spot, free≢fib, spot-unique}
+use Rattle.crash.specs.Whole.{W-owned, keeps-sound}
+use Rattle.crash.specs.FreeBlocks.{first-free, first-in, own-file, free≢spot, free≢fib, spot-unique, spot-in}
 use Rattle.crash.specs.Gone.{gone-zero, top-zero, fib-zero, gone-word, top-word, fib-word, top-prev, fib-prev}
-use Rattle.crash.specs.Joined.{within-both, head-both, last-both}
+use Rattle.frame.specs.Joined.{within-both, head-both, last-both}
 use Rattle.crash.specs.Returned.{Behind, occ-blocks, ways}
+use Rattle.volume.specs.Reads.{off-pib}
+use Rattle.base.specs.Laws.{never}
 
 module _ (π : Partition) (v : View) (ok : sound π v ≡ true) (f : ℕ) (cf : candidate π v f ≡ true) where
   abbrev alone : Bool
@@ -98,24 +100,26 @@ module _ (π : Partition) (v : View) (ok : sound π v ≡ true) (f : ℕ) (cf : 
   tl-occ : 0 < occ (freeTail π v) (free π v)
   tl-occ = tail-free π v ok
 
-  in-mine : (k : ℕ) → present π v f k ≡ true → inside π (spot π v f k) ≡ true
-  in-mine k p = member π v f cf wf k p .ins
+  one : (j k : ℕ) → present π v f j ≡ true → present π v f k ≡ true → spot π v f j ≡ spot π v f k → j ≡ k
+  one = spot-unique π v ok f cf
+
+  mine : (k : ℕ) → present π v f k ≡ true → inside π (spot π v f k) ≡ true
+  mine = spot-in π v ok f cf
 
   -- a free block is none of f's
   apart : (b k : ℕ) → 0 < occ b (free π v) → present π v f k ≡ true → b ≢ spot π v f k
-  apart b k m p = free≢spot π v ok f cf b k m p
+  apart = free≢spot π v ok f cf
 
   -- ---- without its serial f is no file, and its blocks are owned no longer
   pub no : candidate π D f ≡ false
   no = headed-is π D f ∙ ap (headed π f) (upd-same v f R) ∙ headed-zero π f R (fib-zero (π .drive) v a tl f alone)
 
   lost : (x : ℕ) → fileOf π v x ≡ f → owned π D x ≡ false
-  lost x q = go (owned π D x) refl (eqb x f) refl
+  lost x q = never _ (λ o. go o (eqb x f) refl)
     where
-      go : (t : Bool) → owned π D x ≡ t → (u : Bool) → eqb x f ≡ u → t ≡ false
-      go false o u p = refl
-      go true o true p = absurd (omega (arith, pda-pos (π .drive) (fileOf π D x), own π D x o .ser, ap (λ (y : Rec). two y 0) (ap D (eqb-true x f p) ∙ upd-same v f R) ∙ fib-zero (π .drive) v a tl f alone))
-      go true o false p = absurd (true≢false (sym (file-candidate π D _ (own π D x o .file)) ∙ ap (candidate π D) same ∙ no))
+      go : owned π D x ≡ true → (u : Bool) → eqb x f ≡ u → ⊥
+      go o true p = omega (arith, pda-pos (π .drive) (fileOf π D x), own π D x o .ser, ap (λ (y : Rec). two y 0) (ap D (eqb-true x f p) ∙ upd-same v f R) ∙ fib-zero (π .drive) v a tl f alone)
+      go o false p = true≢false (sym (file-candidate π D _ (own π D x o .file)) ∙ ap (candidate π D) same ∙ no)
         where
           same : fileOf π D x ≡ f
           same = ap (λ (y : Rec). pdaBlock (π .drive) (two y 0)) (upd-other v f R x (eqb-false x f p)) ∙ q
@@ -177,25 +181,14 @@ module _ (π : Partition) (v : View) (ok : sound π v ≡ true) (f : ℕ) (cf : 
       (λ _ z. top-word (π .drive) v a tl top w lo (h (sym (one _ k lp p z))) ∙ ap (λ (x : ℕ). v x w) z)
       (λ _ z. gone-word (π .drive) v a tl last w lo ∙ ap (λ (x : ℕ). v x w) z)
       (λ z. absurd (apart tl k tl-occ p z))
-      (λ z. absurd (off-pib π (spot π v f k) (in-mine k p) (sym z))))
+      (λ z. absurd (off-pib π (spot π v f k) (mine k p) (sym z))))
       (λ x. start x (eqb x f) refl) (spot π v f k) refl
     where
-      one : (j k : ℕ) → present π v f j ≡ true → present π v f k ≡ true → spot π v f j ≡ spot π v f k → j ≡ k
-      one = spot-unique π v ok f cf
-
       start : (x : ℕ) (t : Bool) → eqb x f ≡ t → x ≡ spot π v f k → pick t R (v x) w ≡ v (spot π v f k) w
       start x true q z =
           fib-word (π .drive) v a tl f w alone lo (λ y. h (one k home p (present-home π v f) (sym z ∙ eqb-true x f q ∙ sym (spot-home π v f)) ∙ sym (eqb-true _ home y)))
           ∙ ap (λ (y : ℕ). v y w) (sym (eqb-true x f q) ∙ z)
       start x false q z = ap (λ (y : ℕ). v y w) z
-
-  -- the first comes no later than the FIB
-  least-most : least π v f ≤ home
-  least-most = go (ltb home (least π v f)) refl
-    where
-      go : (t : Bool) → ltb home (least π v f) ≡ t → least π v f ≤ home
-      go true q = absurd (true≢false (sym (present-home π v f) ∙ least-is π v f wf .none home (omega arith) (λ _. ltb-true home (least π v f) q)))
-      go false q = ltb-false home (least π v f) q
 
   -- the first points back to the old tail
   W-top : pair W (spot π v f (least π v f)) previousAt ≡ pda (π .drive) (freeTail π v)
@@ -204,14 +197,14 @@ module _ (π : Partition) (v : View) (ok : sound π v ≡ true) (f : ℕ) (cf : 
       ap (λ (x : View). pair x top previousAt) (after-append tops (lasts ++ ends) D)
       ∙ after-each Q (lasts ++ ends) (after tops D)
       (each-append Q lasts ends (each-pick Q empty [] (st last (gone (π .drive) v a last) ∷ []) (λ _. tt) (λ h. (from-last h, tt)))
-      ((λ z. absurd (apart tl _ tl-occ lp z)), ((λ z. absurd (off-pib π top (in-mine _ lp) (sym z))), tt)))
+      ((λ z. absurd (apart tl _ tl-occ lp z)), ((λ z. absurd (off-pib π top (mine _ lp) (sym z))), tt)))
       (λ x z. subst (λ (b : ℕ). pair (after tops D) b previousAt ≡ pda (π .drive) tl) (sym z) (go alone refl)) top refl
     where
       Q : ℕ → Rec → Type 0
       Q x r = x ≡ top → two r 6 ≡ pda (π .drive) tl
 
       from-last : empty ≡ false → Q last (gone (π .drive) v a last)
-      from-last h z = absurd (omega (arith, spot-unique π v ok f cf _ _ ep lp z, least-most, eqb-false (len v f) 0 h))
+      from-last h z = absurd (omega (arith, one _ _ ep lp z, least-most π v f (wf-of π v f wf .short), eqb-false (len v f) 0 h))
 
       go : (t : Bool) → alone ≡ t → pair (after (pick t [] (st top (topGone (π .drive) v a tl top) ∷ [])) D) top previousAt ≡ pda (π .drive) tl
       go true h =
@@ -239,7 +232,7 @@ module _ (π : Partition) (v : View) (ok : sound π v ≡ true) (f : ℕ) (cf : 
       where
         go : (t : Bool) → owned π v b ≡ t → (u : Bool) → eqb (fileOf π v b) f ≡ u → pick t 0 1 + pick (both t u) 1 0 ≡ pick (owned π D b) 0 1
         go true o true q = sym (ap (λ (t : Bool). pick t 0 1) (lost b (eqb-true _ _ q)))
-        go true o false q = sym (ap (λ (t : Bool). pick t 0 1) (own-keep π v D c f turn₁ b o (eqb-false _ _ q)))
+        go true o false q = sym (ap (λ (t : Bool). pick t 0 1) (turn-keeps π v c D f turn₁ b o (eqb-false _ _ q)))
         go false o u q = sym (ap (λ (t : Bool). pick t 0 1) (D-owned b o))
 
     is-free : IsFree π W (free π v ++ blocks π v f)
@@ -268,5 +261,5 @@ module _ (π : Partition) (v : View) (ok : sound π v ≡ true) (f : ℕ) (cf : 
     unfolding destroyPlan destroyed stores after
     destroy-sound = keeps-sound π low pos v ok [] (st f R) rest f good
         (each-rest (λ b _. owned π D b ≡ false) (λ _. lost top (file-back π v f cf wf _ lp)) (λ _. lost last (file-back π v f cf wf _ ep)) (D-owned tl (free-not π v ok tl tl-occ)) (pib-not π D))
-        (λ h q. links-others π v D c f turn₁ (λ b o m. upd-other v f R b (λ z. m (ap (fileOf π v) z ∙ own-file π v ok f cf))) ok h (λ z. true≢false (sym q ∙ ap (candidate π D) z ∙ no)) q)
+        (λ h q. links-others π v D f turn₁ ok (λ b o m. upd-other v f R b (λ z. m (ap (fileOf π v) z ∙ own-file π v ok f cf))) h (λ z. true≢false (sym q ∙ ap (candidate π D) z ∙ no)) q)
         (free π v ++ blocks π v f) is-free

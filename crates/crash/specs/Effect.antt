@@ -20,7 +20,7 @@ use Rattle.volume.specs.Frame.{SameHead, Shape, Clean, kept-len, kept-spot, kep
 use Rattle.volume.specs.Plans.{Plan, stores, freeAt, freshFib, createPlan, describePlan, destroyPlan, destroyed, repairPlan}
 use Rattle.volume.specs.Writes.{over, replacePlan}
 use Rattle.volume.specs.Calls.{Call, create, write, describe, destroy, repair}
-use Rattle.frame.specs.Soft.{headed-is, headed-same}
+use Rattle.frame.specs.Soft.{cand-same}
 use Rattle.frame.specs.Sound.{sound-clean, spare-block}
 use Rattle.frame.specs.Decides.{Good}
 use Rattle.frame.specs.Mended.{mended-agree}
@@ -113,7 +113,7 @@ module _ (π : Partition) (low : π.s < π.e) (pos : 0 < π.s) (v : View) (ok : 
 
       one-file : isFile π (upd v b r) f ≡ true
       unfolding isFile
-      one-file = both-of (headed-is π (upd v b r) f ∙ sym (headed-same π f head) ∙ sym (headed-is π v f) ∙ cf) (sym (kept-wellFormed π v (upd v b r) f shape) ∙ c f cf)
+      one-file = both-of (sym (cand-same π v (upd v b r) f head) ∙ cf) (sym (kept-wellFormed π v (upd v b r) f shape) ∙ c f cf)
         where
           head : SameHead (v f) (upd v b r f)
           head = subst (λ (x : ℕ). SameHead (v x) (upd v b r x)) (spot-home π v f) (shape .heads home (present-home π v f))

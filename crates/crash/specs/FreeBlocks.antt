@@ -1,46 +1,18 @@
--- The free blocks of a sound partition, and what sets them apart from the PIB and from every file; a file's blocks, each another.
-use mathlib.Core.Path.{_≡_, refl, sym, ap, _∙_}
+-- The free blocks of a sound partition, and what sets them apart from every file; a file's blocks, each another.
+use mathlib.Core.Path.{_≡_, sym, ap, _∙_}
 use mathlib.Core.Logic.{_≢_}
-use mathlib.Core.Bool.{Bool, true, false, true≢false}
+use mathlib.Core.Bool.{true, false, true≢false}
 use Prim.Native.Nat.{ℕ, _<_}
-use native.Mathlib.Omega.{arith}
-use borrow.Author.Tests.{ltb-true}
 use Rattle.base.specs.Tests.{occ}
-use Rattle.base.specs.Laws.{both-left}
 use Rattle.drive.specs.Address.{pdaBlock}
 use Rattle.drive.specs.Laws.{pda-back}
-use Rattle.image.specs.View.{View, Rec}
+use Rattle.image.specs.View.{View}
 use Rattle.volume.specs.Keys.{home}
 use Rattle.volume.specs.Files.{inside, candidate, spot, present, wellFormed, fileOf, key, owned, free, freeHead, sound}
 use Rattle.volume.specs.declared.Partition.{Partition}
-use Rattle.volume.specs.Index.{spot-home, present-home, member-owned, key-back, owned-not-pib}
-use Rattle.frame.specs.Soft.{Soft, cand-serial}
+use Rattle.volume.specs.Index.{spot-home, present-home, member-owned, key-back, member}
+use Rattle.frame.specs.Soft.{cand-serial}
 use Rattle.frame.specs.Sound.{sound-clean, free-in, free-not, head-free}
-
--- a block of the partition is not the PIB, and the PIB is owned by no file
-pub off-pib : (π : Partition) (b : ℕ) → inside π b ≡ true → b ≢ π .s
-unfolding inside
-off-pib π b i z = omega (arith, ltb-true (π .s) b (both-left _ _ i))
-
-pub pib-not : (π : Partition) (u : View) → owned π u (π .s) ≡ false
-pib-not π u = go (owned π u (π .s)) refl
-  where
-    go : (t : Bool) → owned π u (π .s) ≡ t → t ≡ false
-    go true h = absurd (owned-not-pib π u (π .s) h refl)
-    go false h = refl
-
--- a record that keeps all but filler and links is softly changed
-pub soft-links : (π : Partition) (v : View) (b : ℕ) {r : Rec} (r₀ : Rec) → v b ≡ r₀ → ((w : ℕ) → w ≢ 3 → w ≢ 4 → w ≢ 5 → w ≢ 6 → w ≢ 7 → r w ≡ r₀ w) → Soft π v b r
-soft-links π v b {r} r₀ q h = record {
-  head = record { low = low 0 (omega arith); high = low 1 (omega arith); rel = low 2 (omega arith) };
-  words = λ w l _. same w (λ z. omega arith) (λ z. omega arith) (λ z. omega arith) (λ z. omega arith) (λ z. omega arith);
-}
-  where
-    same : (w : ℕ) → w ≢ 3 → w ≢ 4 → w ≢ 5 → w ≢ 6 → w ≢ 7 → v b w ≡ r w
-    same w n3 n4 n5 n6 n7 = ap (λ (x : Rec). x w) q ∙ sym (h w n3 n4 n5 n6 n7)
-
-    low : (w : ℕ) → w < 3 → v b w ≡ r w
-    low w l = same w (λ z. omega arith) (λ z. omega arith) (λ z. omega arith) (λ z. omega arith) (λ z. omega arith)
 
 module _ (π : Partition) (v : View) (ok : sound π v ≡ true) where
   -- the first free block
@@ -57,6 +29,9 @@ module _ (π : Partition) (v : View) (ok : sound π v ≡ true) where
 
     pub own-file : fileOf π v f ≡ f
     own-file = ap (pdaBlock (π .drive)) (cand-serial π v f cf) ∙ pda-back (π .drive) f
+
+    pub spot-in : (k : ℕ) → present π v f k ≡ true → inside π (spot π v f k) ≡ true
+    spot-in k p = member π v f cf wf k p .ins
 
     -- a free block is none of them
     pub free≢spot : (b k : ℕ) → 0 < occ b (free π v) → present π v f k ≡ true → b ≢ spot π v f k

@@ -8,17 +8,17 @@ use native.Mathlib.Omega.{arith}
 use lib.Dec.{eqb}
 use borrow.Author.Tests.{eqb-true, eqb-false, eq-eqb, ne-eqb}
 use Rattle.base.specs.Tests.{pick, every, count}
-use Rattle.base.specs.Laws.{cons-same}
+use Rattle.base.specs.Laws.{cons-same, never}
 use Rattle.drive.specs.Address.{pda, lda}
 use Rattle.image.specs.View.{View, Rec, pair, put, put2, blank}
 use Rattle.volume.specs.Words.{nextAt, previousAt}
 use Rattle.volume.specs.Search.{seek}
 use Rattle.volume.specs.Keys.{home, number, slot, low, span}
-use Rattle.volume.specs.KeyLaws.{slot-fib, number-home, low-home}
+use Rattle.volume.specs.KeyLaws.{slot-fib, number-home}
 use Rattle.volume.specs.Files.{isLda, inside, candidate, len, spot, present, least, size, tally, wellFormed, above, below, link}
 use Rattle.volume.specs.declared.Partition.{Partition}
 use Rattle.volume.specs.Index.{spot-home, present-home, here-of, of-wf}
-use Rattle.volume.specs.Order.{next-one, prev-one, above-is, below-is}
+use Rattle.volume.specs.Order.{next-one, prev-one, above-next, below-prev}
 use Rattle.volume.specs.Plans.{freshFib}
 use Rattle.frame.specs.Reading.{word}
 use Rattle.frame.specs.Repair.{lda-self}
@@ -60,11 +60,7 @@ module _ (π : Partition) (v u : View) (h kind : ℕ) (q : u h ≡ freshFib (π 
       go false z = absurd (omega (arith, here-of π u h k (eqb-false k home z) p .asked, fresh-len))
 
   no-other : (k : ℕ) → k ≢ home → present π u h k ≡ false
-  no-other k n = go (present π u h k) refl
-    where
-      go : (t : Bool) → present π u h k ≡ t → t ≡ false
-      go true z = absurd (n (fresh-only k z))
-      go false z = refl
+  no-other k n = never _ (λ z. n (fresh-only k z))
 
   end-is : home + len u h ≡ home
   end-is = ap (λ (n : ℕ). home + n) fresh-len
@@ -101,10 +97,10 @@ module _ (π : Partition) (v u : View) (h kind : ℕ) (q : u h ≡ freshFib (π 
   })
 
   above-none : above π u h home ≡ 0
-  above-none = next-one (present π u h) home _ 0 (above-is π u h fresh-wf home (omega arith)) (record { hit = λ n. absurd (n refl); none = λ i l _. no-other i (λ z. omega arith) })
+  above-none = next-one (present π u h) home _ 0 (above-next π u h home) (record { hit = λ n. absurd (n refl); none = λ i l _. no-other i (λ z. omega arith) })
 
   below-none : below π u h home ≡ 0
-  below-none = prev-one (present π u h) home _ 0 (below-is π u h fresh-wf home (low-home (len u h))) (record { hit = λ n. absurd (n refl); none = λ i p l _. no-other i (λ z. omega arith) })
+  below-none = prev-one (present π u h) home _ 0 (below-prev π u h home) (record { hit = λ n. absurd (n refl); none = λ i p l _. no-other i (λ z. omega arith) })
 
   link-nil : link π u h 0 ≡ 0
   unfolding link

@@ -11,7 +11,7 @@ use Rattle.drive.specs.Address.{ldaBlock}
 use Rattle.image.specs.View.{View, Rec, Store, after, pair}
 use Rattle.image.specs.Image.{view, Bytes}
 use Rattle.image.specs.Stores.{Fits, Whole, stored, over, bytesFrom, bytesOf, view-stored, stored-length}
-use Rattle.volume.specs.Files.{partitionOf, isLda}
+use Rattle.volume.specs.Files.{isLda}
 use Rattle.volume.specs.declared.Partition.{Partition}
 use Rattle.frame.specs.Turn.{Each, each-map, after-each}
 use Rattle.base.specs.declared.Refusal.the-variants.{BadImage, BadPartition}
@@ -69,41 +69,35 @@ same-partition d s l l′ n x y = ap₂ (λ (m a : ℕ). F m a (pair (view l) s 
         (part.Good (ldaBlock d b)) (part.Refused BadPartition))
         (part.Refused BadImage)
 
--- ---- an image that holds the partition s to e of drive d
+-- ---- an image that holds partition π
 
-pub record Held (d s e : ℕ) (l : List ℕ) : Type 0 where
-  pub good : partition d l s ≡ part.Good e
+pub record Held (π : Partition) (l : List ℕ) : Type 0 where
+  pub good : partition π.drive l π.s ≡ part.Good π.e
   pub bytes : Bytes l
 
 whole-of : (π : Partition) (v : View) (n : ℕ) → 528 * π.e + 528 ≤ n → (ss : List Store) → Each (Lawful π v) ss → Whole n ss
 whole-of π v n h [] k = tt
 whole-of π v n h (x ∷ ss) k = ((omega (arith, k .0 .to), k .0 .fits), whole-of π v n h ss (k .1))
 
-module _ {d s e : ℕ} {l : List ℕ} (h : Held d s e l) where
-  abbrev π : Partition
-  π = partitionOf d s e
+module _ {π : Partition} {l : List ℕ} (h : Held π l) where
+  pub lying : Lies π l
+  lying = lies π.drive l π.s π.e (h .good)
 
-  abbrev v : View
-  v = view l
-
-  pub lying : Lies (partitionOf d s e) l
-  lying = lies d l s e (h .good)
-
-  pub placed : Placed (partitionOf d s e) (view l)
+  pub placed : Placed π (view l)
   placed = record { low = lying .order; pos = lying .start; few = lying .few; fits = λ b. view-fits l b (h .bytes) }
 
-  pub end-is : endOf d (view l) s ≡ e
+  pub end-is : endOf π.drive (view l) π.s ≡ π.e
   unfolding partition
-  end-is = go (imageGood d (length l)) (partGood d (length l / 528) (view l) s) (h .good)
+  end-is = go (imageGood π.drive (length l)) (partGood π.drive (length l / 528) (view l) π.s) (h .good)
     where
-      go : (t u : Bool) → pick t (pick u (part.Good (endOf d (view l) s)) (part.Refused BadPartition)) (part.Refused BadImage) ≡ part.Good e → endOf d (view l) s ≡ e
+      go : (t u : Bool) → pick t (pick u (part.Good (endOf π.drive (view l) π.s)) (part.Refused BadPartition)) (part.Refused BadImage) ≡ part.Good π.e → endOf π.drive (view l) π.s ≡ π.e
       go true true q = cc
       go true false q = let z : _≡_ {A = ℕ} 0 1 = cc in absurd (omega arith)
       go false u q = let z : _≡_ {A = ℕ} 0 1 = cc in absurd (omega arith)
 
-  module _ (ss : List Store) (k : Each (Lawful (partitionOf d s e) (view l)) ss) where
+  module _ (ss : List Store) (k : Each (Lawful π (view l)) ss) where
     fit : Whole (length l) ss
-    fit = whole-of π v (length l) (lying .within) ss k
+    fit = whole-of π (view l) (length l) (lying .within) ss k
 
     pub view-after : view (stored ss l) ≡ after ss (view l)
     view-after = view-stored ss l fit
@@ -111,15 +105,15 @@ module _ {d s e : ℕ} {l : List ℕ} (h : Held d s e l) where
     pub length-after : length (stored ss l) ≡ length l
     length-after = stored-length ss l fit
 
-    pib-word : (w : ℕ) → fixedFrom ≤ w → view (stored ss l) s w ≡ view l s w
+    pib-word : (w : ℕ) → fixedFrom ≤ w → view (stored ss l) π.s w ≡ view l π.s w
     pib-word w m =
-        ap (λ (u : View). u s w) view-after
-        ∙ after-each (λ b r. b ≡ s → r w ≡ v s w) ss v (each-map (Lawful π v) (λ b r. b ≡ s → r w ≡ v s w) (λ b r q z. q .pib z w m) ss k) (λ b z. ap (λ (x : ℕ). v x w) z) s refl
+        ap (λ (u : View). u π.s w) view-after
+        ∙ after-each (λ b r. b ≡ π.s → r w ≡ view l π.s w) ss (view l) (each-map (Lawful π (view l)) (λ b r. b ≡ π.s → r w ≡ view l π.s w) (λ b r q z. q .pib z w m) ss k) (λ b z. ap (λ (x : ℕ). view l x w) z) π.s refl
 
-    pub held-after : Held d s e (stored ss l)
+    pub held-after : Held π (stored ss l)
     held-after = record {
-      good = same-partition d s (stored ss l) l length-after
+      good = same-partition π.drive π.s (stored ss l) l length-after
           (ap₂ (λ (x y : ℕ). x + 65536 * y) (pib-word 126 (omega arith)) (pib-word 127 (omega arith)))
           (ap₂ (λ (x y : ℕ). x + 65536 * y) (pib-word 128 (omega arith)) (pib-word 129 (omega arith))) ∙ h .good;
-      bytes = stored-bytes ss l (h .bytes) (each-map (Lawful π v) (λ _ r. Fits r) (λ b r q. q .fits) ss k);
+      bytes = stored-bytes ss l (h .bytes) (each-map (Lawful π (view l)) (λ _ r. Fits r) (λ b r q. q .fits) ss k);
     }

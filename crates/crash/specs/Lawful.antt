@@ -3,21 +3,20 @@
 use mathlib.Core.Path.{_≡_, _∙_}
 use mathlib.Core.List.{[], _∷_}
 use mathlib.Core.Bool.{Bool, true, false}
-use Prim.Native.Nat.{ℕ, zero, suc, _+_, _-_, _≤_, _<_}
+use Prim.Native.Nat.{ℕ, _+_, _-_, _≤_, _<_}
 use native.Mathlib.Omega.{arith}
 use lib.Dec.{eqb}
 use lib.ListN.{length}
-use borrow.Author.Tests.{ltb-true, leb-true}
-use Rattle.base.specs.Tests.{pick, count}
-use Rattle.base.specs.Laws.{both-left, both-right}
-use Rattle.drive.specs.Address.{pda, pdaBlock, lda}
+use Rattle.base.specs.Tests.{pick}
+use Rattle.base.specs.Laws.{count-most}
+use Rattle.drive.specs.Address.{pda, lda}
 use Rattle.image.specs.View.{View, Rec, pair, put2}
 use Rattle.image.specs.Stores.{Fits}
 use Rattle.volume.specs.Keys.{home, low, span}
 use Rattle.volume.specs.KeyLaws.{span-end}
-use Rattle.volume.specs.Files.{inside, candidate, len, end, spot, present, least, size, wellFormed, free, freeHead, chain, sound}
+use Rattle.volume.specs.Files.{inside, candidate, len, end, spot, present, least, size, wellFormed, free, freeHead, sound}
 use Rattle.volume.specs.declared.Partition.{Partition}
-use Rattle.volume.specs.Index.{member, wf-of}
+use Rattle.volume.specs.Index.{wf-of}
 use Rattle.volume.specs.Order.{least-present}
 use Rattle.volume.specs.Plans.{st, stores, freeAt, freshFib, newFirst, pibLess, takenStores, createPlan, describePlan, destroyPlan, destroyed, gone, topGone, fibGone, topGoneStores, lastGoneStores, pibMore, freeTail, asFiller}
 use Rattle.volume.specs.Writes.{over, replacePlan}
@@ -27,8 +26,11 @@ use Rattle.frame.specs.Sound.{tail-free, sound-clean, sound-number, free-in}
 use Rattle.frame.specs.Reading.{put2-off}
 use Rattle.frame.specs.Taking.{taken}
 use Rattle.drive.specs.Fits.{pda-small, lda-small}
-use Rattle.volume.specs.Words.{fillerAt, nextAt, numberFreeAt, serialAt}
+use Rattle.volume.specs.Words.{fillerAt, numberFreeAt, serialAt}
 use Rattle.frame.specs.Fitting.{put-fits, put2-fits, blank-fits, Words, data-fits, text-fits}
+use Rattle.volume.specs.Reads.{inside-of}
+use Rattle.frame.specs.Chain.{chain-short}
+use Rattle.crash.specs.FreeBlocks.{spot-in}
 
 -- a partition in its place on a drive, in a view of records
 pub record Placed (π : Partition) (v : View) : Type 0 where
@@ -47,29 +49,6 @@ pub record Lawful (π : Partition) (v : View) (b : ℕ) (r : Rec) : Type 0 where
   pub fits : Fits r
   pub pib : b ≡ π.s → (w : ℕ) → fixedFrom ≤ w → r w ≡ v π.s w
 
-module _ (π : Partition) where
-  pub in-both : (b : ℕ) → inside π b ≡ true → (π.s < b) × (b ≤ π.e)
-  unfolding inside
-  in-both b i = (ltb-true π.s b (both-left _ _ i), leb-true b π.e (both-right _ _ i))
-
-pub count-most : (k : ℕ) (P : ℕ → Bool) → count k P ≤ k
-unfolding count
-count-most zero P = omega arith
-count-most (suc k) P = go (P k) (count-most k P)
-  where
-    go : (t : Bool) → count k P ≤ k → pick t 1 0 + count k P ≤ suc k
-    go true ih = omega arith
-    go false ih = omega arith
-
-chain-short : (π : Partition) (v : View) (k b : ℕ) → length (chain π v k b) ≤ k
-unfolding chain
-chain-short π v zero b = omega arith
-chain-short π v (suc k) b = go (eqb (pair v b nextAt) 0) (chain-short π v k (pdaBlock π.drive (pair v b nextAt)))
-  where
-    go : (t : Bool) → length (chain π v k (pdaBlock π.drive (pair v b nextAt))) ≤ k → length (b ∷ elim t [ true ↦ [] | false ↦ chain π v k (pdaBlock π.drive (pair v b nextAt)) ]) ≤ suc k
-    go true ih = omega arith
-    go false ih = omega arith
-
 module _ {π : Partition} {v : View} (at : Placed π v) where
   pub pda-fits : (b : ℕ) → b ≤ π.e → pda π.drive b < 4294967296
   pda-fits b h = pda-small π.drive b (omega (arith, at .few))
@@ -78,11 +57,11 @@ module _ {π : Partition} {v : View} (at : Placed π v) where
   lda-fits b h = lda-small π.drive b (omega (arith, at .few))
 
   pub le-end : (b : ℕ) → inside π b ≡ true → b ≤ π.e
-  le-end b i = in-both π b i .1
+  le-end b i = inside-of π b i .1
 
   -- a store into the partition's blocks, and one into the PIB
   pub inner : {b : ℕ} {r : Rec} → inside π b ≡ true → Fits r → Lawful π v b r
-  inner {b} i h = let n = in-both π b i in record { from = omega arith; to = n .1; fits = h; pib = λ z. absurd (omega arith) }
+  inner {b} i h = let n = inside-of π b i in record { from = omega arith; to = n .1; fits = h; pib = λ z. absurd (omega arith) }
 
   pub at-pib : {r : Rec} → Fits r → ((w : ℕ) → fixedFrom ≤ w → r w ≡ v π.s w) → Lawful π v π.s r
   at-pib h k = record { from = omega arith; to = omega (arith, at .low); fits = h; pib = λ _. k }
@@ -127,9 +106,6 @@ module _ {π : Partition} {v : View} (at : Placed π v) where
       wf : wellFormed π v f ≡ true
       wf = sound-clean π v ok f cf
 
-      spot-in : (k : ℕ) → present π v f k ≡ true → inside π (spot π v f k) ≡ true
-      spot-in k p = member π v f cf wf k p .ins
-
       f-in : inside π f ≡ true
       f-in = cand-in π v f cf
 
@@ -139,7 +115,7 @@ module _ {π : Partition} {v : View} (at : Placed π v) where
 
       pub replace-lawful : (r : ℕ) → present π v f (292 + r) ≡ true → (dat : Rec) → Words 256 dat → Each (Lawful π v) (stores (replacePlan π v f r dat))
       unfolding stores replacePlan over
-      replace-lawful r p dat k = (inner (spot-in (292 + r) p) (data-fits k (at .fits _)), tt)
+      replace-lawful r p dat k = (inner (spot-in π v ok f cf (292 + r) p) (data-fits k (at .fits _)), tt)
 
       -- ---- destroy
       gone-fits : (b : ℕ) → Fits (gone π.drive v (freeHead π v) b)
@@ -197,10 +173,10 @@ module _ {π : Partition} {v : View} (at : Placed π v) where
           last = spot π v f (end v f)
 
           top-in : inside π (spot π v f (least π v f)) ≡ true
-          top-in = spot-in _ (least-present π v f wf .1)
+          top-in = spot-in π v ok f cf _ (least-present π v f wf .1)
 
           last-in′ : inside π (spot π v f (end v f)) ≡ true
-          last-in′ = spot-in _ (wf-of π v f wf .ends)
+          last-in′ = spot-in π v ok f cf _ (wf-of π v f wf .ends)
 
           fib : (t : Bool) → Fits (pick t (topGone (π .drive) v h tl f) (put2 serialAt 0 (v f)))
           fib true = top-fits f

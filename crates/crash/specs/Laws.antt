@@ -4,30 +4,29 @@
 use mathlib.Core.Path.{_≡_, refl, sym, ap, ap₂, _∙_, subst, fun-ext}
 use mathlib.Core.Logic.{_≢_}
 use mathlib.Core.List.{List, []}
-use mathlib.Core.Bool.{Bool, true, false, not, true≢false}
-use Prim.Native.Nat.{ℕ, zero, suc, _+_, _-_, _*_, _/_, _%_, _≤_, _<_}
+use mathlib.Core.Bool.{Bool, true, false, true≢false}
+use Prim.Native.Nat.{ℕ, zero, suc, _+_, _-_, _*_, _/_, _%_, _<_}
 use native.Mathlib.Omega.{arith}
 use lib.Dec.{leb, ltb, eqb}
 use lib.ListN.{take, length}
-use borrow.Author.Tests.{ltb-true, eqb-true, eqb-false, leb-true}
-use Rattle.base.specs.Tests.{pick, both, count}
-use Rattle.base.specs.Laws.{every-at, both-left, both-right, both-of}
+use borrow.Author.Tests.{eqb-true, eqb-false}
+use Rattle.base.specs.Tests.{pick, count}
+use Rattle.base.specs.Laws.{every-at}
 use Rattle.image.specs.View.{View, Store, after, pair}
 use Rattle.image.specs.Image.{view, view-settles}
 use Rattle.image.specs.Stores.{stored}
-use Rattle.volume.specs.Files.{partitionOf, unowned, blockAt, inside, candidate, len, wellFormed, isFile, isMalformed, sound}
+use Rattle.volume.specs.Files.{partitionOf, unowned, blockAt, candidate, len, isFile, sound}
 use Rattle.volume.specs.declared.Partition.{Partition}
-use Rattle.volume.specs.Frame.{Clean}
+use Rattle.volume.specs.Frame.{Clean, of-clean, clean-of}
 use Rattle.volume.specs.Plans.{Plan, repairStores, repairPlan}
 use Rattle.volume.specs.Writes.{needs}
-use Rattle.frame.specs.Soft.{cand-in}
 use Rattle.frame.specs.Sound.{sound-clean, spare-block}
 use lib.Seq.{take-length}
 use Rattle.base.specs.declared.Refusal.{Refusal}
 use Rattle.base.specs.declared.Refusal.the-variants.{BadBuffer, Unsound, NothingFree, Full, NoCandidate, BadBlock, Malformed, BadImage, BadPartition}
 use Rattle.volume.specs.Words.{numberFreeAt}
 use Rattle.volume.specs.Keys.{reach}
-use Rattle.volume.specs.Answers.{imageGood, partGood, endOf, partition, lowest, lowestMalformed, checked, checkIn, checkClean, tallied, inPartition}
+use Rattle.volume.specs.Answers.{imageGood, partGood, endOf, partition, lowestMalformed, checked, checkIn, checkClean, tallied, inPartition}
 use Rattle.volume.specs.Calls.{Call, create, write, describe, destroy, repair, Planned, refuse, finish, planned, through, unmarred, createIn, appendIn, writeIn, describeIn, destroyIn, repairIn, room}
 use Rattle.volume.specs.declared.Found.{Found}
 use Rattle.volume.specs.declared.Found.the-variants.{At, Nothing}
@@ -36,7 +35,6 @@ use Rattle.volume.specs.declared.Part.the-variants as part
 use Rattle.volume.specs.declared.Outcome.the-variants.{Done, Refused}
 use Rattle.frame.specs.Restart as restart
 use Rattle.frame.specs.Mended.{sound-is}
-use Rattle.frame.specs.Clean.{of-clean}
 use Rattle.crash.specs.Settled.{Settled, refused, done}
 use Rattle.crash.specs.Held.{Held, placed, end-is}
 use Rattle.crash.specs.Accepting.{Sound, sound-accepted, accepted-sound, settled, block}
@@ -112,16 +110,18 @@ refused-alone d s l c h k = go (planned d l s c) (comes d s l c) h
 pub effect : (d s : ℕ) (l : List ℕ) → Image l → Accepted d s l → (c : Call) → Proper c → isDone (planned d l s c .outcome) ≡ true → Effect (here d s l) c (view l) (view (whole d s l c))
 effect d s l b a c p q =
     subst (λ (e : ℕ). Effect (partitionOf d s e) c (view l) (view (whole d s l c))) (sym (end-is h))
-    (subst (Effect (partitionOf d s (y .end)) c (view l)) (sym (whole-view h (y .is) c p)) (go (planned d l s c) (settled h (y .is) c p) q))
+    (subst (Effect π c (view l)) (sym (whole-view h (y .is) c p)) (go (planned d l s c) (settled h (y .is) c p) q))
   where
     y : Sound d s l
     y = accepted-sound d s l b a
 
-    h : Held d s (y .end) l
+    π : Partition
+    π = partitionOf d s (y .end)
+
+    h : Held (partitionOf d s (y .end)) l
     h = y .held
 
-    go : (x : Planned) → Settled (partitionOf d s (y .end)) (view l) (block h c) (Effect (partitionOf d s (y .end)) c (view l)) x → isDone (x .outcome) ≡ true
-        → Effect (partitionOf d s (y .end)) c (view l) (after (x .list) (view l))
+    go : (x : Planned) → Settled π (view l) (block h c) (Effect π c (view l)) x → isDone (x .outcome) ≡ true → Effect π c (view l) (after (x .list) (view l))
     go _ (refused z) q = absurd (true≢false (sym q))
     go _ (done a P o) q = o .effect
 
@@ -138,36 +138,9 @@ cut-unmarred d s l b a c p k =
 -- a repair that is not refused is of a good partition without a malformed candidate and with an unowned block
 record Mendable (d s : ℕ) (l : List ℕ) : Type 0 where
   end : ℕ
-  held : Held d s end l
+  held : Held (partitionOf d s end) l
   clean : Clean (partitionOf d s end) (view l)
   spare : unowned (partitionOf d s end) (view l) ≢ []
-
-lowest-all : (p : ℕ → Bool) (a n : ℕ) → lowest p a n ≡ Nothing → (b : ℕ) → a ≤ b → b < a + n → p b ≡ false
-unfolding lowest
-lowest-all p a zero h b l m = absurd (omega arith)
-lowest-all p a (suc n) h b l m = go (p a) refl h (eqb a b) refl (λ q k. lowest-all p (a + 1) n q b k (omega arith))
-  where
-    go : (t : Bool) → p a ≡ t → elim t [ true ↦ At a | false ↦ lowest p (a + 1) n ] ≡ Nothing → (u : Bool) → eqb a b ≡ u → (lowest p (a + 1) n ≡ Nothing → a + 1 ≤ b → p b ≡ false) → p b ≡ false
-    go true q h u z ih = let y : _≡_ {A = ℕ} 0 1 = cc in absurd (omega arith)
-    go false q h true z ih = ap p (sym (eqb-true a b z)) ∙ q
-    go false q h false z ih = ih h (let n = eqb-false a b z in omega arith)
-
-unmarred-clean : (π : Partition) (v : View) → lowestMalformed π v ≡ Nothing → Clean π v
-unfolding lowestMalformed isMalformed both inside
-unmarred-clean π v h f c = go (wellFormed π v f) refl
-  where
-    i : inside π f ≡ true
-    i = cand-in π v f c
-
-    lo : π.s < f
-    lo = ltb-true π.s f (both-left (ltb π.s f) (leb f π.e) i)
-
-    hi : f ≤ π.e
-    hi = leb-true f π.e (both-right (ltb π.s f) (leb f π.e) i)
-
-    go : (t : Bool) → wellFormed π v f ≡ t → t ≡ true
-    go true q = refl
-    go false q = absurd (true≢false (sym (both-of {a = candidate π v f} {b = not (wellFormed π v f)} c (ap not q)) ∙ lowest-all (isMalformed π v) (π.s + 1) (π.e - π.s) h f (omega (arith, lo)) (omega (arith, lo, hi))))
 
 mendable : (d s : ℕ) (l : List ℕ) → Image l → isDone (planned d l s repair .outcome) ≡ true → Mendable d s l
 unfolding planned repairIn
@@ -179,7 +152,7 @@ mendable d s l b h = on (partition d l s) refl h
 
     formed : (e : ℕ) → partition d l s ≡ part.Good e → (m : Found) → lowestMalformed (partitionOf d s e) (view l) ≡ m → isDone (unmarred m (repairIn (partitionOf d s e) (view l)) .outcome) ≡ true → Mendable d s l
     formed e g (At f) q k = absurd (true≢false (sym k))
-    formed e g Nothing q k = record { end = e; held = record { good = g; bytes = b }; clean = unmarred-clean (partitionOf d s e) (view l) q; spare = last e (eqb (length (unowned (partitionOf d s e) (view l))) 0) refl k }
+    formed e g Nothing q k = record { end = e; held = record { good = g; bytes = b }; clean = clean-of (partitionOf d s e) (view l) q; spare = last e (eqb (length (unowned (partitionOf d s e) (view l))) 0) refl k }
 
     on : (x : Part) → partition d l s ≡ x → isDone (inPartition refuse x (λ e. unmarred (lowestMalformed (partitionOf d s e) (view l)) (repairIn (partitionOf d s e) (view l))) .outcome) ≡ true → Mendable d s l
     on (part.Good e) g k = formed e g (lowestMalformed (partitionOf d s e) (view l)) refl k
@@ -192,17 +165,18 @@ repair-accepted d s l b h =
     sound-accepted (mended-held (y .held) (y .clean) (y .spare))
     (ap (sound (partitionOf d s (y .end))) (mended-view (y .held) (y .clean) (y .spare)) ∙ sound-is (partitionOf d s (y .end)) (view l) (y .clean) (y .spare) (placed (y .held) .low) (placed (y .held) .pos))
 
-records : (d s e : ℕ) (l : List ℕ) → Held d s e l → length l ≡ 528 * (length l / 528)
+records : {π : Partition} {l : List ℕ} → Held π l → length l ≡ 528 * (length l / 528)
 unfolding partition imageGood
-records d s e l h = go (imageGood d (length l)) refl (partGood d (length l / 528) (view l) s) (h .good)
+records {π} {l} h = go (imageGood π.drive (length l)) refl (partGood π.drive (length l / 528) (view l) π.s) (h .good)
   where
-    go : (t : Bool) → imageGood d (length l) ≡ t → (u : Bool) → pick t (pick u (part.Good (endOf d (view l) s)) (part.Refused BadPartition)) (part.Refused BadImage) ≡ part.Good e → length l ≡ 528 * (length l / 528)
+    go : (t : Bool) → imageGood π.drive (length l) ≡ t → (u : Bool) → pick t (pick u (part.Good (endOf π.drive (view l) π.s)) (part.Refused BadPartition)) (part.Refused BadImage) ≡ part.Good π.e
+        → length l ≡ 528 * (length l / 528)
     go true q u z = let k : length l % 528 ≡ 0 = eqb-true _ _ (every-at _ q 2) in omega arith
     go false q u z = let y : _≡_ {A = ℕ} 0 1 = cc in absurd (omega arith)
 
 -- repairing a repaired image again changes no byte
 pub repair-again : (d s : ℕ) (l : List ℕ) → Image l → isDone (planned d l s repair .outcome) ≡ true → whole d s (whole d s l repair) repair ≡ whole d s l repair
-repair-again d s l b h = view-settles (whole d s m repair) m (length m / 528) (same-length ∙ records d s (y .end) m hm) (records d s (y .end) m hm) (hm₂ .bytes) (hm .bytes) (λ x w _ _. ap (λ (u : View). u x w) same-view)
+repair-again d s l b h = view-settles (whole d s m repair) m (length m / 528) (same-length ∙ records hm) (records hm) (hm₂ .bytes) (hm .bytes) (λ x w _ _. ap (λ (u : View). u x w) same-view)
   where
     y : Mendable d s l
     y = mendable d s l b h
@@ -213,7 +187,7 @@ repair-again d s l b h = view-settles (whole d s m repair) m (length m / 528) (s
     m : List ℕ
     m = whole d s l repair
 
-    hm : Held d s (y .end) m
+    hm : Held π m
     hm = mended-held (y .held) (y .clean) (y .spare)
 
     vm : view m ≡ after (repairStores π (view l)) (view l)
@@ -228,7 +202,7 @@ repair-again d s l b h = view-settles (whole d s m repair) m (length m / 528) (s
     nm : unowned π (view m) ≢ []
     nm = spare-block π (view m) ok
 
-    hm₂ : Held d s (y .end) (whole d s m repair)
+    hm₂ : Held π (whole d s m repair)
     hm₂ = mended-held hm cm nm
 
     reached : restart.Part π (view l) (y .clean) (after (repairStores π (view l)) (view l))

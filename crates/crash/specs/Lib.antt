@@ -17,7 +17,6 @@ pub mod Needed
 pub mod Fresh
 pub mod Create
 pub mod OneBlock
-pub mod Joined
 pub mod Returned
 pub mod Gone
 pub mod Destroy

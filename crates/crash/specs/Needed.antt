@@ -1,29 +1,22 @@
 -- In a sound partition the free blocks are those that the files do not need: m - 1 blocks in all.
-use mathlib.Core.Path.{_≡_, refl, sym, _∙_}
-use mathlib.Core.Bool.{Bool, true, false, not}
-use Prim.Native.Nat.{ℕ, suc, _+_, _-_, _<_}
+use mathlib.Core.Path.{_≡_, _∙_}
+use mathlib.Core.Bool.{true, not}
+use Prim.Native.Nat.{_+_, _-_, _<_}
 use native.Mathlib.Omega.{arith}
-use Rattle.base.specs.Tests.{pick, count}
+use Rattle.base.specs.Tests.{count}
 use Rattle.image.specs.View.{View, pair}
 use Rattle.volume.specs.Files.{blockAt, owned, free, sound}
 use Rattle.volume.specs.declared.Partition.{Partition}
 use Rattle.frame.specs.Sound.{sound-once, sound-within, sound-number}
-use Rattle.base.specs.Sums.{sum-same, count-sum, count-both}
+use Rattle.base.specs.Sums.{count-both}
 use Rattle.frame.specs.Needed.{needed, owned-needed}
 use Rattle.volume.specs.Words.{numberFreeAt}
-use Rattle.frame.specs.FreeChain.{length-sum, in-range}
+use Rattle.frame.specs.FreeChain.{length-unowned}
 
 module _ (π : Partition) (v : View) where
   -- the free chain has the others
   pub free-unowned : π.s < π.e → sound π v ≡ true → pair v π.s numberFreeAt ≡ count (π.e - π.s) (λ i. not (owned π v (blockAt π i)))
-  free-unowned low ok =
-      sound-number π v ok ∙ length-sum π (free π v) low (sound-within π v ok)
-      ∙ sum-same (π.e - π.s) _ _ (λ i l. sound-once π v ok (suc (π.s + i)) (in-range π i l) ∙ flip (owned π v (suc (π.s + i))))
-      ∙ sym (count-sum (π.e - π.s) (λ i. not (owned π v (blockAt π i))))
-    where
-      flip : (t : Bool) → _≡_ {A = ℕ} (pick t 0 1) (pick (not t) 1 0)
-      flip true = refl
-      flip false = refl
+  free-unowned low ok = sound-number π v ok ∙ length-unowned π v (free π v) low (sound-within π v ok) (sound-once π v ok)
 
   -- free and needed: m - 1
   pub free-and-needed : π.s < π.e → sound π v ≡ true → pair v π.s numberFreeAt + needed π v ≡ π.e - π.s

@@ -11,42 +11,24 @@ use borrow.Author.Tests.{eqb-true, eqb-false, lt-ltb, le-ltb, lt-leb}
 use Rattle.base.specs.Tests.{pick, both, headOf, lastOf}
 use Rattle.image.specs.View.{upd-same, upd-other, View, Rec, after, upd, pair}
 use Rattle.image.specs.Saves.{withData, withText}
-use Rattle.volume.specs.Words.{nextAt, previousAt, slotAt}
-use Rattle.volume.specs.Keys.{home, up, slot, child, first}
+use Rattle.volume.specs.Keys.{home, up, slot}
 use Rattle.volume.specs.KeyLaws.{up-most, slot-fib, number-fib}
-use Rattle.volume.specs.Files.{isLda, inside, candidate, spot, present, wellFormed, key, owned, above, below, link, free, freeHead, sound}
+use Rattle.volume.specs.Files.{isLda, inside, candidate, spot, present, wellFormed, key, owned, free, freeHead, sound}
 use Rattle.volume.specs.declared.Partition.{Partition}
-use Rattle.volume.specs.Index.{spot-home, present-home, member, member-owned, file-back, key-back, present-few, present-low, present-high}
-use Rattle.volume.specs.Order.{above-is, below-is}
-use Rattle.volume.specs.Frame.{SameHead, head-of, Shape, Clean, Formed, kept-len, kept-present, kept-spot, kept-link, kept-above, kept-below, kept-wellFormed, agree-clean, agree-owned}
+use Rattle.volume.specs.Index.{spot-home, present-home, member, member-owned, file-back, key-back, present-few}
+use Rattle.volume.specs.Frame.{SameHead, head-of, Shape, Clean, Formed, kept-present, kept-spot, kept-wellFormed, agree-clean, agree-owned}
 use Rattle.volume.specs.Plans.{st, stores, describePlan}
 use Rattle.volume.specs.Writes.{over, replacePlan}
-use Rattle.frame.specs.Soft.{headed-is, headed-same, headed-rel, cand-in}
+use Rattle.frame.specs.Soft.{headed-rel, cand-in, cand-same}
 use Rattle.frame.specs.Turn.{Turn, Mine, turn-free, turn-decided}
 use Rattle.frame.specs.Decides.{Good}
 use Rattle.frame.specs.Sound.{sound-clean, sound-linked, sound-once, sound-within, sound-chained, sound-head, sound-tail, sound-number, sound-some, some-free}
-use Rattle.frame.specs.FreeChain.{Links, links-of, sound-of}
+use Rattle.frame.specs.FreeChain.{links-of, sound-of, links-same}
 use Rattle.frame.specs.Reading.{two}
-use Rattle.crash.specs.FreeBlocks.{off-pib, first-free, first-in, own-file, spot≢fib}
-use Rattle.crash.specs.Joined.{chained-links}
-
--- a file of the same form, whose blocks have the same links, and whose pointer blocks the same entries
-links-same : (π : Partition) (v u : View) (f : ℕ) → wellFormed π v f ≡ true → Shape π v u f → ((b w : ℕ) → 4 ≤ w → w < 8 → v b w ≡ u b w)
-    → ((k : ℕ) → k < home → present π v f k ≡ true → u (spot π v f k) ≡ v (spot π v f k)) → Links π v f → Links π u f
-links-same π v u f wf s same inner h = record {
-  next = λ k p. let q = kept-present π v u f s k ∙ p in
-      ap (λ (b : ℕ). pair u b nextAt) (sym (kept-spot π v u f s k q)) ∙ sym (link-is (spot π v f k) 4 (omega arith) (omega arith)) ∙ h .next k q
-      ∙ kept-link π v u f s (above π v f k) (λ n. above-is π v f wf k (present-high π v f k q) .hit n .0) ∙ ap (link π u f) (kept-above π v u f s k);
-  prev = λ k p. let q = kept-present π v u f s k ∙ p in
-      ap (λ (b : ℕ). pair u b previousAt) (sym (kept-spot π v u f s k q)) ∙ sym (link-is (spot π v f k) 6 (omega arith) (omega arith)) ∙ h .prev k q
-      ∙ kept-link π v u f s (below π v f k) (λ n. below-is π v f wf k (present-low π v f k q) .hit n .0) ∙ ap (link π u f) (kept-below π v u f s k);
-  tail = λ k i l p m n. let q = kept-present π v u f s k ∙ p in
-      ap (λ (b : ℕ). pair u b (slotAt i)) (sym (kept-spot π v u f s k q)) ∙ ap (λ (x : Rec). two x (slotAt i)) (inner k l q)
-      ∙ h .tail k i l q m (subst (λ (x : ℕ). x ≤ first (child k (slotAt i))) (sym (kept-len π v u f s)) n);
-}
-  where
-    link-is : (b w : ℕ) → 4 ≤ w → w < 7 → pair v b w ≡ pair u b w
-    link-is b w l m = ap₂ (λ (x y : ℕ). x + 65536 * y) (same b w l (omega arith)) (same b (w + 1) (omega arith) (omega arith))
+use Rattle.crash.specs.FreeBlocks.{first-free, first-in, own-file, spot≢fib}
+use Rattle.frame.specs.Joined.{chained-links}
+use Rattle.volume.specs.Reads.{off-pib}
+use Rattle.volume.specs.Words.{nextAt, previousAt}
 
 -- r instead of the record of b, which is no pointer block: f's content alone is changed
 pub record One (π : Partition) (v : View) (f b : ℕ) (r : Rec) : Type 0 where
@@ -127,7 +109,7 @@ module _ (π : Partition) (v : View) (ok : sound π v ≡ true) (f : ℕ) (cf : 
     turn₁ = one-good .turn
 
     same-f : candidate π v f ≡ candidate π (upd v b r) f
-    same-f = headed-is π v f ∙ headed-same π f (heads f) ∙ sym (headed-is π (upd v b r) f)
+    same-f = cand-same π v (upd v b r) f (heads f)
 
     al : Formed π v (upd v b r)
     al = record { shape = λ h k. sh h k (eqb h f) refl; cands = λ h. ca h (eqb h f) refl }
@@ -147,8 +129,11 @@ module _ (π : Partition) (v : View) (ok : sound π v ≡ true) (f : ℕ) (cf : 
         go true q = ap (λ (y : ℕ). v y w) (eqb-true x b q) ∙ o .links w l m
         go false q = refl
 
-    link2 : (x w : ℕ) → 4 ≤ w → w < 7 → pair (upd v b r) x w ≡ pair v x w
-    link2 x w l m = sym (ap₂ (λ (y z : ℕ). y + 65536 * z) (link-word x w l (omega arith)) (link-word x (w + 1) (omega arith) (omega arith)))
+    both-links : (x : ℕ) → (pair (upd v b r) x nextAt ≡ pair v x nextAt) × (pair (upd v b r) x previousAt ≡ pair v x previousAt)
+    both-links x = (link2 4 (omega arith) (omega arith), link2 6 (omega arith) (omega arith))
+      where
+        link2 : (w : ℕ) → 4 ≤ w → w < 7 → pair (upd v b r) x w ≡ pair v x w
+        link2 w l m = sym (ap₂ (λ (y z : ℕ). y + 65536 * z) (link-word x w l (omega arith)) (link-word x (w + 1) (omega arith) (omega arith)))
 
     W-pib : upd v b r (π .s) ≡ v (π .s)
     W-pib = upd-other v b r (π .s) (λ z. off-pib π b (o .inn) (sym z))
@@ -157,7 +142,7 @@ module _ (π : Partition) (v : View) (ok : sound π v ≡ true) (f : ℕ) (cf : 
     one-sound low = sound-of π (upd v b r) (free π v) low
         (record {
           inn = sound-within π v ok;
-          ways = chained-links π v (upd v b r) 0 (free π v) (λ x _. (link2 x 4 (omega arith) (omega arith), link2 x 6 (omega arith) (omega arith))) (sound-chained π v ok);
+          ways = chained-links π v (upd v b r) 0 (free π v) (λ x _. both-links x) (sound-chained π v ok);
           once = λ x n. sound-once π v ok x n ∙ ap (λ (t : Bool). pick t 0 1) (agree-owned π v (upd v b r) c al x);
           head = ap (λ (y : Rec). isLda (π .drive) (two y 8) (headOf 0 (free π v))) W-pib ∙ sound-head π v ok;
           tail = ap (λ (y : Rec). isLda (π .drive) (two y 10) (lastOf 0 (free π v))) W-pib ∙ sound-tail π v ok;
@@ -165,7 +150,7 @@ module _ (π : Partition) (v : View) (ok : sound π v ≡ true) (f : ℕ) (cf : 
           some = sound-some π v ok;
         })
         (agree-clean π v (upd v b r) c al)
-        (λ h k. let c₀ = al .cands h ∙ k in links-same π v (upd v b r) h (c h c₀) (al .shape h c₀) link-word (λ j. pointer h j c₀) (links-of π v h (sound-linked π v ok h c₀)))
+        (λ h k. let c₀ = al .cands h ∙ k in links-same π v (upd v b r) h (al .shape h c₀) (λ j _. both-links (spot π v h j)) (λ j. pointer h j c₀) (links-of π v h (sound-linked π v ok h c₀)))
 
   -- ---- the two calls
 

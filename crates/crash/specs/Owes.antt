@@ -5,11 +5,9 @@ use mathlib.Core.Bool.{true, false}
 use Prim.Native.Nat.{ℕ, zero, suc, _+_, _-_, _<_}
 use native.Mathlib.Omega.{arith}
 use lib.ListN.{length}
-use borrow.Author.Tests.{ltb-true}
 use Rattle.base.specs.Tests.{tabFrom}
-use Rattle.base.specs.Laws.{every-at, both-left}
 use Rattle.image.specs.View.{View, Rec, Store, after, upd}
-use Rattle.volume.specs.Files.{unowned, inside, candidate, len, present, free, freeHead, sound, isFile}
+use Rattle.volume.specs.Files.{unowned, candidate, len, present, free, freeHead, sound, isFile}
 use Rattle.volume.specs.declared.Partition.{Partition}
 use Rattle.volume.specs.Frame.{Clean, Agree, formed, agree-unowned}
 use Rattle.volume.specs.Plans.{st, Plan, stores, createPlan, describePlan, destroyPlan, repairPlan, repaired, repairedPib}
@@ -27,6 +25,7 @@ use Rattle.crash.specs.Create.{create-good, create-sound}
 use Rattle.crash.specs.OneBlock.{describe-good, describe-sound, replace-good, replace-sound}
 use Rattle.crash.specs.Destroy.{destroy-good, destroy-sound}
 use Rattle.crash.specs.Effect.{Created, Written, Described, here-data, created, described, replaced, removed, mended-same}
+use Rattle.volume.specs.Reads.{candidate-in}
 
 -- a plan changes file f alone, at its deciding store; whole, it leaves a sound partition, in which E holds; each of its stores is lawful
 pub record Owes (π : Partition) (v : View) (P : Plan) (f : ℕ) (E : View → Type 0) : Type 0 where
@@ -81,8 +80,7 @@ module _ (π : Partition) (v : View) (at : Placed π v) (ok : sound π v ≡ tru
   tab-calm i (suc k) = (repaired-quiet π v clean i, tab-calm (suc i) k)
 
   no-file : candidate π v 0 ≡ true → ⊥
-  unfolding candidate inside
-  no-file h = omega (arith, ltb-true (π .s) 0 (both-left _ _ (every-at _ h 0)))
+  no-file h = omega (arith, candidate-in π v 0 h .0)
 
   repair-good : Good π v (repairPlan π v) 0
   unfolding repairPlan after

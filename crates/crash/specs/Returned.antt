@@ -6,13 +6,12 @@ use mathlib.Core.Bool.{Bool, true, false, true≢false}
 use Prim.Native.Nat.{ℕ, _+_, _*_, _≤_, _<_}
 use native.Mathlib.Omega.{arith}
 use lib.Dec.{ltb, eqb}
-use borrow.Author.Tests.{ltb-true, ltb-false, eqb-true, eqb-false, ne-eqb}
+use borrow.Author.Tests.{ltb-true, ltb-false, eqb-true, eqb-false}
 use Rattle.base.specs.Tests.{pick, both, headOf, occ}
-use Rattle.base.specs.Laws.{both-left}
 use Rattle.drive.specs.Address.{pda, orNil}
 use Rattle.image.specs.View.{View, Rec, pair, put2}
 use Rattle.volume.specs.Words.{nextAt, previousAt}
-use Rattle.volume.specs.Files.{inside, candidate, spot, present, least, wellFormed, fileOf, key, owned, free, chained, sound}
+use Rattle.volume.specs.Files.{candidate, spot, present, least, wellFormed, fileOf, key, owned, free, chained, sound}
 use Rattle.volume.specs.declared.Partition.{Partition}
 use Rattle.volume.specs.Index.{own, member, member-owned, file-back}
 use Rattle.volume.specs.Order.{least-present}
@@ -21,7 +20,8 @@ use Rattle.frame.specs.Reading.{two, put2-off, put2-here}
 use Rattle.frame.specs.Sound.{tail-is, tail-free, sound-clean, sound-linked, sound-chained, free-in, free-once, sound-some}
 use Rattle.frame.specs.FreeChain.{links-of}
 use Rattle.frame.specs.Listed.{blocks, chained-blocks, occ-mine, occ-other, head-blocks}
-use Rattle.crash.specs.Joined.{chained-first, chained-join}
+use Rattle.frame.specs.Joined.{chained-first, chained-join}
+use Rattle.volume.specs.Reads.{or-pda}
 
 module _ (π : Partition) (v : View) (ok : sound π v ≡ true) (f : ℕ) (cf : candidate π v f ≡ true) where
   abbrev top : ℕ
@@ -56,10 +56,6 @@ module _ (π : Partition) (v : View) (ok : sound π v ≡ true) (f : ℕ) (cf : 
       go : (t : Bool) → occ b (blocks π v f) ≡ pick t 1 0 → occ b (blocks π v f) ≤ 1
       go true q = omega arith
       go false q = omega arith
-
-  orNil-in : (b : ℕ) → inside π b ≡ true → orNil (π .drive) b ≡ pda (π .drive) b
-  unfolding inside
-  orNil-in b i = ap (λ (t : Bool). pick t 0 (pda (π .drive) b)) (ne-eqb b 0 (λ z. omega (arith, ltb-true (π .s) b (both-left _ _ i))))
 
   few : (b : ℕ) → occ b (free π v) ≤ 1
   few b = go (ltb 0 (occ b (free π v))) refl
@@ -109,9 +105,9 @@ module _ (π : Partition) (v : View) (ok : sound π v ≡ true) (f : ℕ) (cf : 
 
     pub ways : chained π W 0 (free π v ++ blocks π v f) ≡ true
     ways = chained-join π v W 0 tl (free π v) (blocks π v f) (sound-some π v ok) (sym (tail-is π v ok)) few free-prev (λ b m n. ap (λ (r : Rec). two r 4) (h .free b m n))
-        (ap (λ (r : Rec). two r 4) (h .tail) ∙ put2-here 4 _ (v tl) ∙ sym (orNil-in top (member π v f cf wf _ (least-present π v f wf .1) .ins)) ∙ ap (orNil (π .drive)) (sym head-is))
+        (ap (λ (r : Rec). two r 4) (h .tail) ∙ put2-here 4 _ (v tl) ∙ sym (or-pda π top (member π v f cf wf _ (least-present π v f wf .1) .ins)) ∙ ap (orNil (π .drive)) (sym head-is))
         (chained-first π v W tl (blocks π v f) few-blocks (λ b m. block-links b m .0) (λ b m n. block-links b m .1 (λ z. n (z ∙ sym head-is)))
-        (ap (λ (b : ℕ). pair W b previousAt) head-is ∙ h .first ∙ sym (orNil-in tl (free-in π v ok tl tl-occ)))
+        (ap (λ (b : ℕ). pair W b previousAt) head-is ∙ h .first ∙ sym (or-pda π tl (free-in π v ok tl tl-occ)))
         (chained-blocks π v f cf wf (links-of π v f (sound-linked π v ok f cf))))
         (sound-chained π v ok)
       where

@@ -1,10 +1,10 @@
 -- What a call comes to in a sound partition: a refusal, or a plan that keeps what every plan owes.
-use mathlib.Core.Path.{_≡_, refl, sym, _∙_}
-use mathlib.Core.Bool.{Bool, true, false, true≢false}
+use mathlib.Core.Path.{_≡_, refl}
+use mathlib.Core.Bool.{Bool, true, false}
 use Prim.Native.Nat.{ℕ, _<_}
 use lib.Dec.{leb, ltb, eqb}
 use lib.ListN.{length}
-use borrow.Author.Tests.{ltb-true, ltb-false, eqb-true, le-leb}
+use borrow.Author.Tests.{ltb-true, eqb-true, leb-false}
 use Rattle.base.specs.Tests.{pick}
 use Rattle.base.specs.declared.Refusal.{Refusal}
 use Rattle.base.specs.declared.Refusal.the-variants.{BadBlock, Full, NoCandidate, NothingFree}
@@ -31,16 +31,9 @@ module _ (π : Partition) (v : View) (at : Placed π v) (ok : sound π v ≡ tru
   either true x y h k = h refl
   either false x y h k = k refl
 
-  leb-no : (x k : ℕ) → leb x k ≡ false → k < x
-  leb-no x k h = go (ltb k x) refl
-    where
-      go : (t : Bool) → ltb k x ≡ t → k < x
-      go true q = ltb-true k x q
-      go false q = absurd (true≢false (sym (le-leb x k (ltb-false k x q)) ∙ h))
-
   pub create-settled : (kind : ℕ) → kind < 65536 → Settled π v (freeHead π v) (λ w. Created π v w (freeHead π v) kind) (createIn π v kind)
   unfolding createIn
-  create-settled kind k = either (leb (room π v) 1) _ _ (λ _. refused Full) (λ h. done (freeHead π v) (createPlan π v kind) (create-owes π v at ok kind k (leb-no _ 1 h)))
+  create-settled kind k = either (leb (room π v) 1) _ _ (λ _. refused Full) (λ h. done (freeHead π v) (createPlan π v kind) (create-owes π v at ok kind k (leb-false _ 1 h)))
 
   pub describe-settled : {n : ℕ} (f : ℕ) (dat : Rec) → Words n dat → Settled π v f (λ w. Described π v w f dat) (describeIn π v f dat)
   unfolding describeIn
@@ -58,7 +51,7 @@ module _ (π : Partition) (v : View) (at : Placed π v) (ok : sound π v ≡ tru
   append-settled : (f r : ℕ) (dat : Rec) → Words 256 dat → candidate π v f ≡ true → r ≡ len v f → r < reach → Settled π v f (λ w. Written π v w f r dat) (appendIn π v f r dat)
   unfolding appendIn
   append-settled f r dat k c n l = either (leb (room π v) (needs π v f r)) _ _ (λ _. refused Full)
-      (λ h. done 0 (writePlan π v f r dat) (write-owes (record { ok = ok; cf = c; next = n; far = l; enough = leb-no _ _ h }) dat at k))
+      (λ h. done 0 (writePlan π v f r dat) (write-owes (record { ok = ok; cf = c; next = n; far = l; enough = leb-false _ _ h }) dat at k))
 
   pub write-settled : (f r : ℕ) (dat : Rec) → Words 256 dat → Settled π v f (λ w. Written π v w f r dat) (writeIn π v f r dat)
   unfolding writeIn

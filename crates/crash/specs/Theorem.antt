@@ -3,20 +3,19 @@ use mathlib.Core.Path.{_≡_, refl, sym, ap, _∙_, subst}
 use mathlib.Core.Logic.{_≢_}
 use mathlib.Core.List.{List, [], _∷_}
 use mathlib.Core.Bool.{Bool, true, false, true≢false}
-use Prim.Native.Nat.{ℕ, _+_, _<_}
+use Prim.Native.Nat.{ℕ, _+_}
 use native.Mathlib.Omega.{arith}
-use lib.Dec.{leb, ltb, eqb}
+use lib.Dec.{ltb, eqb}
 use lib.ListN.{take, length}
-use borrow.Author.Tests.{ltb-true, eqb-true, eqb-false}
-use Rattle.base.specs.Tests.{pick, both}
-use Rattle.base.specs.Laws.{both-left}
+use borrow.Author.Tests.{eqb-true, eqb-false}
+use Rattle.base.specs.Tests.{pick}
+use Rattle.base.specs.Laws.{never}
 use Rattle.image.specs.View.{View, Store, after}
 use Rattle.image.specs.Image.{view}
-use Rattle.volume.specs.Files.{partitionOf, unowned, inside, candidate, len, present, spot, name, wellFormed, isFile, sound}
+use Rattle.volume.specs.Files.{partitionOf, unowned, present, spot, name, isFile, sound}
 use Rattle.volume.specs.declared.Partition.{Partition}
 use Rattle.volume.specs.Frame.{Clean}
 use Rattle.volume.specs.Plans.{repairStores}
-use Rattle.frame.specs.Soft.{cand-in}
 use Rattle.frame.specs.Turn.{Each, each-take}
 use Rattle.volume.specs.Calls.{Call, create, write, describe, destroy, repair, Planned, planned, decided}
 use Rattle.volume.specs.declared.Found.the-variants.{At}
@@ -32,40 +31,96 @@ use Rattle.crash.specs.Effect.{Effect}
 use Rattle.crash.specs.Held.{Held, placed, end-is, view-after, length-after, held-after}
 use Rattle.crash.specs.Accepting.{Sound, sound-accepted, accepted-sound, block, settled, repair-is}
 use Rattle.crash.specs.Statement.{Proper, AllProper, isDone, stopped, whole, runs, Repairs, none, again, here, SameContent, SameFile, named, Survives, Demand3}
+use Rattle.volume.specs.Reads.{candidate-in}
+use Rattle.volume.specs.Index.{file-candidate}
 
 -- ---- a file that is the same in two views of one partition is the same in the images
 
-module _ {d s e : ℕ} {l l′ : List ℕ} (h : Held d s e l) (h′ : Held d s e l′) where
-  abbrev π : Partition
-  π = partitionOf d s e
+module _ {π : Partition} {l l′ : List ℕ} (h : Held π l) (h′ : Held π l′) where
+  here-is : here π.drive π.s l ≡ π
+  here-is = ap (partitionOf π.drive π.s) (end-is h)
 
-  here-is : here d s l ≡ partitionOf d s e
-  here-is = ap (partitionOf d s) (end-is h)
+  here-is′ : here π.drive π.s l′ ≡ π
+  here-is′ = ap (partitionOf π.drive π.s) (end-is h′)
 
-  here-is′ : here d s l′ ≡ partitionOf d s e
-  here-is′ = ap (partitionOf d s) (end-is h′)
-
-  module _ (f : ℕ) (q : views.SameFile (partitionOf d s e) (view l) (view l′) f) where
-    module _ (i : isFile (partitionOf d s e) (view l) f ≡ true) where
-      same-content : SameContent d s l l′ f
+  module _ (f : ℕ) (q : views.SameFile π (view l) (view l′) f) where
+    module _ (i : isFile π (view l) f ≡ true) where
+      same-content : SameContent π.drive π.s l l′ f
       same-content = record {
-        long = ap (λ (ρ : Partition). len (view l) f) here-is ∙ q .long i ∙ sym (ap (λ (ρ : Partition). len (view l′) f) here-is′);
+        long = q .long i;
         keys = λ k. ap (λ (ρ : Partition). present ρ (view l) f k) here-is ∙ q .keys i k ∙ sym (ap (λ (ρ : Partition). present ρ (view l′) f k) here-is′);
         blocks = λ k p. ap (λ (ρ : Partition). spot ρ (view l) f k) here-is
             ∙ q .blocks i k (subst (λ (ρ : Partition). present ρ (view l) f k ≡ true) here-is p)
             ∙ sym (ap (λ (ρ : Partition). spot ρ (view l′) f k) here-is′);
         bytes = λ r m k _. ap (λ (ρ : Partition). view l (name ρ (view l) f r) (8 + k)) here-is
-            ∙ same-bytes π (view l) (view l′) f q i r (subst (λ (ρ : Partition). r < len (view l) f) here-is m) (8 + k) (omega arith)
+            ∙ same-bytes π (view l) (view l′) f q i r m (8 + k) (omega arith)
             ∙ sym (ap (λ (ρ : Partition). view l′ (name ρ (view l′) f r) (8 + k)) here-is′);
         kind = q .kind i;
         description = λ k m. q .text i (8 + k) (omega arith) (omega arith);
       }
 
-    pub same-file : SameFile d s l l′ f
+    pub same-file : SameFile π.drive π.s l l′ f
     same-file = record {
       there = ap (λ (ρ : Partition). isFile ρ (view l) f) here-is ∙ q .is ∙ sym (ap (λ (ρ : Partition). isFile ρ (view l′) f) here-is′);
       content = λ i. same-content (sym (ap (λ (ρ : Partition). isFile ρ (view l) f) here-is) ∙ i);
     }
+
+-- ---- block 0
+
+-- block 0 is a file in no partition
+zero-no : (ρ : Partition) (v : View) → isFile ρ v 0 ≡ false
+zero-no ρ v = never _ (λ q. omega (arith, candidate-in ρ v 0 (file-candidate ρ v 0 q) .0))
+
+no-zero : (ρ : Partition) (v w : View) → views.SameFile ρ v w 0
+no-zero ρ v w = file-same ρ v w 0 (zero-no ρ v ∙ sym (zero-no ρ w)) (λ i. absurd (true≢false (sym i ∙ zero-no ρ v)))
+
+-- ---- repairs
+
+-- a repair of an image without a malformed candidate, and with an unowned block, makes repair's stores
+module _ {π : Partition} {l : List ℕ} (h : Held π l) (c : Clean π (view l)) (n : unowned π (view l) ≢ []) where
+  list-is : planned π.drive l π.s repair .list ≡ repairStores π (view l)
+  list-is = ap (λ (x : Planned). x .list) (repair-is h c n)
+
+  repair-each : Each (Lawful π (view l)) (planned π.drive l π.s repair .list)
+  repair-each = subst (Each (Lawful π (view l))) (sym list-is) (repair-lawful (placed h))
+
+  pub cut-held : (k : ℕ) → Held π (stopped π.drive π.s l repair k)
+  cut-held k = held-after h (take k (planned π.drive l π.s repair .list)) (each-take (Lawful π (view l)) k (planned π.drive l π.s repair .list) repair-each)
+
+  pub cut-view : (k : ℕ) → view (stopped π.drive π.s l repair k) ≡ after (take k (repairStores π (view l))) (view l)
+  cut-view k =
+      view-after h (take k (planned π.drive l π.s repair .list)) (each-take (Lawful π (view l)) k (planned π.drive l π.s repair .list) repair-each)
+      ∙ ap (λ (xs : List Store). after (take k xs) (view l)) list-is
+
+  pub mended-held : Held π (whole π.drive π.s l repair)
+  mended-held = held-after h (planned π.drive l π.s repair .list) repair-each
+
+  pub mended-view : view (whole π.drive π.s l repair) ≡ after (repairStores π (view l)) (view l)
+  mended-view = view-after h (planned π.drive l π.s repair .list) repair-each ∙ ap (λ (xs : List Store). after xs (view l)) list-is
+
+  pub mended-length : length (whole π.drive π.s l repair) ≡ length l
+  mended-length = length-after h (planned π.drive l π.s repair .list) repair-each
+
+  pub repair-done : isDone (planned π.drive l π.s repair .outcome) ≡ true
+  repair-done = ap (λ (x : Planned). isDone (x .outcome)) (repair-is h c n)
+
+-- what repairs, each stopped somewhere, make of an image is what they make of its view
+pub record Reached (π : Partition) (v : View) (l′ : List ℕ) : Type 0 where
+  pub held : Held π l′
+  pub repairs : cuts.Repairs π v (view l′)
+
+pub reached : {π : Partition} {l l′ : List ℕ} (h : Held π l) → Clean π (view l) → unowned π (view l) ≢ [] → Repairs π.drive π.s l l′ → Reached π (view l) l′
+reached h c n none = record { held = h; repairs = cuts.none }
+reached {π} {l} h c n (again {m} r k) = go (reached h c n r)
+  where
+    go : Reached π (view l) m → Reached π (view l) (stopped π.drive π.s m repair k)
+    go x = record {
+      held = cut-held (x .held) (y .clean) (y .spare) k;
+      repairs = subst (cuts.Repairs π (view l)) (sym (cut-view (x .held) (y .clean) (y .spare) k)) (cuts.more (x .repairs) k);
+    }
+      where
+        y : cuts.Survives π (view l) (view m)
+        y = survives π (placed h .low) (placed h .pos) (view l) c n (x .repairs)
 
 -- ---- one call
 
@@ -73,60 +128,100 @@ settled-lawful : {π : Partition} {v : View} {f : ℕ} {E : View → Type 0} (x 
 settled-lawful _ (refused y) = tt
 settled-lawful _ (done a P o) = o .lawful
 
--- block 0 is a file in no partition
-zero-no : (ρ : Partition) (v : View) → isFile ρ v 0 ≡ false
-unfolding isFile both inside
-zero-no ρ v = ap (λ (t : Bool). both t (wellFormed ρ v 0)) (go (candidate ρ v 0) refl)
-  where
-    go : (t : Bool) → candidate ρ v 0 ≡ t → t ≡ false
-    go true q = absurd (omega (arith, ltb-true ρ.s 0 (both-left (ltb ρ.s 0) (leb 0 ρ.e) (cand-in ρ v 0 q))))
-    go false q = refl
+module _ {π : Partition} {l : List ℕ} (h : Held π l) (ok : sound π (view l) ≡ true) (c : Call) (p : Proper c) where
+  -- its stores
+  abbrev pub steps : List Store
+  steps = planned π.drive l π.s c .list
 
-no-zero : (ρ : Partition) (v w : View) → views.SameFile ρ v w 0
-no-zero ρ v w = file-same ρ v w 0 (zero-no ρ v ∙ sym (zero-no ρ w)) (λ i. absurd (true≢false (sym i ∙ zero-no ρ v)))
+  plan : Settled π (view l) (block h c) (Effect π c (view l)) (planned π.drive l π.s c)
+  plan = settled h ok c p
 
-module _ {d s e : ℕ} {l : List ℕ} (h : Held d s e l) (ok : sound (partitionOf d s e) (view l) ≡ true) (c : Call) (k : Proper c) where
-  abbrev π₁ : Partition
-  π₁ = partitionOf d s e
+  lawful : Each (Lawful π (view l)) steps
+  lawful = settled-lawful (planned π.drive l π.s c) plan
 
-  plan : Settled (partitionOf d s e) (view l) (block h c) (Effect (partitionOf d s e) c (view l)) (planned d l s c)
-  plan = settled h ok c k
+  pub whole-held : Held π (whole π.drive π.s l c)
+  whole-held = held-after h steps lawful
 
-  lawful : Each (Lawful (partitionOf d s e) (view l)) (planned d l s c .list)
-  lawful = settled-lawful (planned d l s c) plan
+  pub whole-view : view (whole π.drive π.s l c) ≡ after steps (view l)
+  whole-view = view-after h steps lawful
 
-  pub whole-held : Held d s e (whole d s l c)
-  whole-held = held-after h (planned d l s c .list) lawful
+  pub whole-ok : sound π (view (whole π.drive π.s l c)) ≡ true
+  whole-ok = ap (sound π) whole-view ∙ whole-sound (placed h) ok plan
 
-  pub whole-view : view (whole d s l c) ≡ after (planned d l s c .list) (view l)
-  whole-view = view-after h (planned d l s c .list) lawful
+  pub stopped-held : (n : ℕ) → Held π (stopped π.drive π.s l c n)
+  stopped-held n = held-after h (take n steps) (each-take (Lawful π (view l)) n steps lawful)
 
-  pub whole-ok : sound (partitionOf d s e) (view (whole d s l c)) ≡ true
-  whole-ok = ap (sound π₁) whole-view ∙ whole-sound π₁ (placed h .low) (placed h .pos) (view l) ok (block h c) (Effect (partitionOf d s e) c (view l)) (planned d l s c) plan
-
-  pub stopped-held : (n : ℕ) → Held d s e (stopped d s l c n)
-  stopped-held n = held-after h (take n (planned d l s c .list)) (each-take (Lawful π₁ (view l)) n (planned d l s c .list) lawful)
-
-  pub stopped-view : (n : ℕ) → view (stopped d s l c n) ≡ after (take n (planned d l s c .list)) (view l)
-  stopped-view n = view-after h (take n (planned d l s c .list)) (each-take (Lawful π₁ (view l)) n (planned d l s c .list) lawful)
+  pub stopped-view : (n : ℕ) → view (stopped π.drive π.s l c n) ≡ after (take n steps) (view l)
+  stopped-view n = view-after h (take n steps) (each-take (Lawful π (view l)) n steps lawful)
 
   -- the files that it does not name
-  pub unnamed : (f : ℕ) → named d s l c ≢ At f → views.SameFile (partitionOf d s e) (view l) (after (planned d l s c .list) (view l)) f
+  pub unnamed : (f : ℕ) → named π.drive π.s l c ≢ At f → views.SameFile π (view l) (after steps (view l)) f
   unnamed f n = go (eqb f (block h c)) refl
     where
-      other : eqb f (block h c) ≡ false → views.SameFile π₁ (view l) (after (planned d l s c .list) (view l)) f
-      other q = whole-others π₁ (placed h .low) (placed h .pos) (view l) ok (block h c) (Effect (partitionOf d s e) c (view l)) (planned d l s c) plan f (eqb-false f (block h c) q)
+      other : eqb f (block h c) ≡ false → views.SameFile π (view l) (after steps (view l)) f
+      other q = whole-others (placed h) ok plan f (eqb-false f (block h c) q)
 
-      hit : (c : Call) → named d s l c ≢ At f → f ≡ block h c → f ≡ 0
+      hit : (c : Call) → named π.drive π.s l c ≢ At f → f ≡ block h c → f ≡ 0
       hit (create kind) n z = absurd (n (ap At (sym z)))
       hit (write g r b) n z = absurd (n (ap At (sym z)))
       hit (describe g t) n z = absurd (n (ap At (sym z)))
       hit (destroy g) n z = absurd (n (ap At (sym z)))
       hit repair n z = z
 
-      go : (t : Bool) → eqb f (block h c) ≡ t → views.SameFile π₁ (view l) (after (planned d l s c .list) (view l)) f
-      go true q = subst (views.SameFile π₁ (view l) (after (planned d l s c .list) (view l))) (sym (hit c n (eqb-true f (block h c) q))) (no-zero π₁ (view l) (after (planned d l s c .list) (view l)))
+      go : (t : Bool) → eqb f (block h c) ≡ t → views.SameFile π (view l) (after steps (view l)) f
+      go true q = subst (views.SameFile π (view l) (after steps (view l))) (sym (hit c n (eqb-true f (block h c) q))) (no-zero π (view l) (after steps (view l)))
       go false q = other q
+
+  -- stopped after n stores, and then repairs
+  module _ (n : ℕ) where
+    -- at the view
+    outlives : {u : View} → cuts.Repairs π (view (stopped π.drive π.s l c n)) u → cuts.Survives π (pick (ltb 0 (decided (planned π.drive l π.s c .deciding) n)) (after steps (view l)) (view l)) u
+    outlives {u} r = stopped-survives (placed h) ok plan n (subst (λ (w : View). cuts.Repairs π w u) (stopped-view n) r)
+
+    -- at once after the stop
+    pub cut-clean : Clean π (view (stopped π.drive π.s l c n))
+    cut-clean = outlives cuts.none .clean
+
+    pub cut-spare : unowned π (view (stopped π.drive π.s l c n)) ≢ []
+    cut-spare = outlives cuts.none .spare
+
+    -- what the last repair leaves holds the partition still
+    pub survivor-held : (l′ : List ℕ) → Repairs π.drive π.s (stopped π.drive π.s l c n) l′ → Held π (whole π.drive π.s l′ repair)
+    survivor-held l′ r =
+        let x = reached (stopped-held n) cut-clean cut-spare r in
+        let y = outlives (x .repairs) in
+        mended-held (x .held) (y .clean) (y .spare)
+
+    pub survived : (l′ : List ℕ) → Repairs π.drive π.s (stopped π.drive π.s l c n) l′ → Survives π.drive π.s l c n l′
+    survived l′ r = record {
+      not-refused = repair-done hu (y .clean) (y .spare);
+      accepted = sound-accepted hm (ap (sound π) vm ∙ y .sound);
+      others = λ f q. same-file h hm f (subst (λ (w : View). views.SameFile π (view l) w f) (sym vm) (file-trans (part (ltb 0 (decided (planned π.drive l π.s c .deciding) n)) f q) (y .files f)));
+      all-or-none = λ f _. choose (ltb 0 (decided (planned π.drive l π.s c .deciding) n)) f (y .files f);
+    }
+      where
+        x : Reached π (view (stopped π.drive π.s l c n)) l′
+        x = reached (stopped-held n) cut-clean cut-spare r
+
+        hu : Held π l′
+        hu = x .held
+
+        y : cuts.Survives π (pick (ltb 0 (decided (planned π.drive l π.s c .deciding) n)) (after steps (view l)) (view l)) (view l′)
+        y = outlives (x .repairs)
+
+        hm : Held π (whole π.drive π.s l′ repair)
+        hm = mended-held (x .held) (y .clean) (y .spare)
+
+        vm : view (whole π.drive π.s l′ repair) ≡ after (repairStores π (view l′)) (view l′)
+        vm = mended-view (x .held) (y .clean) (y .spare)
+
+        part : (t : Bool) (f : ℕ) → named π.drive π.s l c ≢ At f → views.SameFile π (view l) (pick t (after steps (view l)) (view l)) f
+        part true f q = unnamed f q
+        part false f q = file-refl π (view l) f
+
+        choose : (t : Bool) (f : ℕ) → views.SameFile π (pick t (after steps (view l)) (view l)) (after (repairStores π (view l′)) (view l′)) f → SameFile π.drive π.s (pick t (whole π.drive π.s l c) l) (whole π.drive π.s l′ repair) f
+        choose true f q = same-file whole-held hm f (subst (λ (w : View). views.SameFile π w (view (whole π.drive π.s l′ repair)) f) (sym whole-view) (subst (λ (w : View). views.SameFile π (after steps (view l)) w f) (sym vm) q))
+        choose false f q = same-file h hm f (subst (λ (w : View). views.SameFile π (view l) w f) (sym vm) q)
 
 -- ---- whole calls, one after another
 
@@ -137,116 +232,6 @@ pub runs-kept : {d s : ℕ} (l : List ℕ) → Sound d s l → (cs : List Call) 
 unfolding runs
 runs-kept l y [] k = y
 runs-kept l y (c ∷ cs) k = runs-kept _ (whole-kept y c (k .0)) cs (k .1)
-
--- ---- repairs
-
--- a repair of an image without a malformed candidate, and with an unowned block, makes repair's stores
-module _ {d s e : ℕ} {l : List ℕ} (h : Held d s e l) (c : Clean (partitionOf d s e) (view l)) (n : unowned (partitionOf d s e) (view l) ≢ []) where
-  abbrev π₃ : Partition
-  π₃ = partitionOf d s e
-
-  list-is : planned d l s repair .list ≡ repairStores (partitionOf d s e) (view l)
-  list-is = ap (λ (x : Planned). x .list) (repair-is h c n)
-
-  repair-each : Each (Lawful (partitionOf d s e) (view l)) (planned d l s repair .list)
-  repair-each = subst (Each (Lawful π₃ (view l))) (sym list-is) (repair-lawful (placed h))
-
-  pub cut-held : (k : ℕ) → Held d s e (stopped d s l repair k)
-  cut-held k = held-after h (take k (planned d l s repair .list)) (each-take (Lawful π₃ (view l)) k (planned d l s repair .list) repair-each)
-
-  pub cut-view : (k : ℕ) → view (stopped d s l repair k) ≡ after (take k (repairStores (partitionOf d s e) (view l))) (view l)
-  cut-view k =
-      view-after h (take k (planned d l s repair .list)) (each-take (Lawful π₃ (view l)) k (planned d l s repair .list) repair-each)
-      ∙ ap (λ (xs : List Store). after (take k xs) (view l)) list-is
-
-  pub mended-held : Held d s e (whole d s l repair)
-  mended-held = held-after h (planned d l s repair .list) repair-each
-
-  pub mended-view : view (whole d s l repair) ≡ after (repairStores (partitionOf d s e) (view l)) (view l)
-  mended-view = view-after h (planned d l s repair .list) repair-each ∙ ap (λ (xs : List Store). after xs (view l)) list-is
-
-  pub mended-length : length (whole d s l repair) ≡ length l
-  mended-length = length-after h (planned d l s repair .list) repair-each
-
-  pub repair-done : isDone (planned d l s repair .outcome) ≡ true
-  repair-done = ap (λ (x : Planned). isDone (x .outcome)) (repair-is h c n)
-
--- what repairs, each stopped somewhere, make of an image is what they make of its view
-pub record Reached (d s e : ℕ) (v : View) (l′ : List ℕ) : Type 0 where
-  pub held : Held d s e l′
-  pub repairs : cuts.Repairs (partitionOf d s e) v (view l′)
-
-pub reached : {d s e : ℕ} {l l′ : List ℕ} (h : Held d s e l) → Clean (partitionOf d s e) (view l) → unowned (partitionOf d s e) (view l) ≢ [] → Repairs d s l l′ → Reached d s e (view l) l′
-reached h c n none = record { held = h; repairs = cuts.none }
-reached {d} {s} {e} {l} h c n (again {m} r k) = go (reached h c n r)
-  where
-    go : Reached d s e (view l) m → Reached d s e (view l) (stopped d s m repair k)
-    go x = record {
-      held = cut-held (x .held) (y .clean) (y .spare) k;
-      repairs = subst (cuts.Repairs (partitionOf d s e) (view l)) (sym (cut-view (x .held) (y .clean) (y .spare) k)) (cuts.more (x .repairs) k);
-    }
-      where
-        y : cuts.Survives (partitionOf d s e) (view l) (view m)
-        y = survives (partitionOf d s e) (placed h .low) (placed h .pos) (view l) c n (x .repairs)
-
--- ---- a call stopped after n stores, and repairs
-
-module _ {d s e : ℕ} {l : List ℕ} (h : Held d s e l) (ok : sound (partitionOf d s e) (view l) ≡ true) (c : Call) (p : Proper c) (n : ℕ) where
-  abbrev π₄ : Partition
-  π₄ = partitionOf d s e
-
-  abbrev xs : List Store
-  xs = planned d l s c .list
-
-  -- at the view
-  outlives : {u : View} → cuts.Repairs (partitionOf d s e) (view (stopped d s l c n)) u → cuts.Survives (partitionOf d s e) (pick (ltb 0 (decided (planned d l s c .deciding) n)) (after (planned d l s c .list) (view l)) (view l)) u
-  outlives {u} r = stopped-survives π₄ (placed h .low) (placed h .pos) (view l) ok (block h c) (Effect (partitionOf d s e) c (view l)) (planned d l s c) (plan h ok c p) n
-      (subst (λ (w : View). cuts.Repairs π₄ w u) (stopped-view h ok c p n) r)
-
-  -- at once after the stop
-  pub cut-clean : Clean (partitionOf d s e) (view (stopped d s l c n))
-  cut-clean = outlives cuts.none .clean
-
-  pub cut-spare : unowned (partitionOf d s e) (view (stopped d s l c n)) ≢ []
-  cut-spare = outlives cuts.none .spare
-
-  -- what the last repair leaves holds the partition still
-  pub survivor-held : (l′ : List ℕ) → Repairs d s (stopped d s l c n) l′ → Held d s e (whole d s l′ repair)
-  survivor-held l′ r =
-      let x = reached (stopped-held h ok c p n) cut-clean cut-spare r in
-      let y = outlives (x .repairs) in
-      mended-held (x .held) (y .clean) (y .spare)
-
-  pub survived : (l′ : List ℕ) → Repairs d s (stopped d s l c n) l′ → Survives d s l c n l′
-  survived l′ r = record {
-    not-refused = repair-done hu (y .clean) (y .spare);
-    accepted = sound-accepted hm (ap (sound π₄) vm ∙ y .sound);
-    others = λ f q. same-file h hm f (subst (λ (w : View). views.SameFile π₄ (view l) w f) (sym vm) (file-trans (part (ltb 0 (decided (planned d l s c .deciding) n)) f q) (y .files f)));
-    all-or-none = λ f _. choose (ltb 0 (decided (planned d l s c .deciding) n)) f (y .files f);
-  }
-    where
-      x : Reached d s e (view (stopped d s l c n)) l′
-      x = reached (stopped-held h ok c p n) cut-clean cut-spare r
-
-      hu : Held d s e l′
-      hu = x .held
-
-      y : cuts.Survives π₄ (pick (ltb 0 (decided (planned d l s c .deciding) n)) (after xs (view l)) (view l)) (view l′)
-      y = outlives (x .repairs)
-
-      hm : Held d s e (whole d s l′ repair)
-      hm = mended-held (x .held) (y .clean) (y .spare)
-
-      vm : view (whole d s l′ repair) ≡ after (repairStores π₄ (view l′)) (view l′)
-      vm = mended-view (x .held) (y .clean) (y .spare)
-
-      part : (t : Bool) (f : ℕ) → named d s l c ≢ At f → views.SameFile π₄ (view l) (pick t (after xs (view l)) (view l)) f
-      part true f q = unnamed h ok c p f q
-      part false f q = file-refl π₄ (view l) f
-
-      choose : (t : Bool) (f : ℕ) → views.SameFile π₄ (pick t (after xs (view l)) (view l)) (after (repairStores π₄ (view l′)) (view l′)) f → SameFile d s (pick t (whole d s l c) l) (whole d s l′ repair) f
-      choose true f q = same-file (whole-held h ok c p) hm f (subst (λ (w : View). views.SameFile π₄ w (view (whole d s l′ repair)) f) (sym (whole-view h ok c p)) (subst (λ (w : View). views.SameFile π₄ (after xs (view l)) w f) (sym vm) q))
-      choose false f q = same-file h hm f (subst (λ (w : View). views.SameFile π₄ (view l) w f) (sym vm) q)
 
 -- ---- demand 3
 

@@ -1,21 +1,84 @@
--- The free chain that repair builds is walked as the ascending list of the unowned blocks.
+-- The chain from a block; the free chain that repair builds is walked as the ascending list of the unowned blocks.
 use mathlib.Core.Path.{_≡_, refl, sym, ap, ap₂, _∙_, fun-ext}
 use mathlib.Core.Logic.{_⊎_, inl, inr, _≢_}
 use mathlib.Core.List.{List, [], _∷_}
 use mathlib.Core.Bool.{Bool, true, false}
 use Prim.Native.Nat.{ℕ, zero, suc, _+_, _-_, _≤_, _<_}
 use native.Mathlib.Omega.{arith}
-use lib.Dec.{eqb}
+use lib.Dec.{eqb, ltb}
 use lib.ListN.{length}
-use borrow.Author.Tests.{eqb-true, eqb-false, lt-ltb, le-ltb, eq-eqb, ne-eqb, le-leb}
+use borrow.Author.Tests.{eqb-true, eqb-false, lt-ltb, le-ltb, eq-eqb, ne-eqb}
 use Rattle.base.specs.Tests.{pick, count, those, occ, headOf, lastOf, above, below}
 use Rattle.drive.specs.Address.{pda, pdaBlock, orNil}
 use Rattle.drive.specs.Laws.{pda-back, pda-pos}
 use Rattle.image.specs.View.{View, pair}
-use Rattle.base.specs.Laws.{both-of}
+use Rattle.base.specs.Laws.{both-of, both-left, both-right, count-most}
 use Rattle.volume.specs.Words.{nextAt, previousAt}
-use Rattle.volume.specs.Files.{chain, chained, within, inside}
+use Rattle.volume.specs.Files.{chain, chained, within}
 use Rattle.volume.specs.declared.Partition.{Partition}
+use Rattle.volume.specs.Reads.{inside-of, of-inside}
+
+-- ---- the chain from a block, by its link
+
+module _ (π : Partition) (v : View) where
+  pub chain-end : (fuel b : ℕ) → pair v b nextAt ≡ 0 → chain π v (suc fuel) b ≡ b ∷ []
+  unfolding chain
+  chain-end fuel b q = rw (eq-eqb _ _ q, chain)
+
+  pub chain-more : (fuel b : ℕ) → pair v b nextAt ≢ 0 → chain π v (suc fuel) b ≡ b ∷ chain π v fuel (pdaBlock (π .drive) (pair v b nextAt))
+  unfolding chain
+  chain-more fuel b n = rw (ne-eqb _ _ n, chain)
+
+  pub chain-on : (fuel b c : ℕ) → pair v b nextAt ≡ pda (π .drive) c → chain π v (suc fuel) b ≡ b ∷ chain π v fuel c
+  chain-on fuel b c q = chain-more fuel b (λ z. omega (arith, pda-pos (π .drive) c, q)) ∙ ap (λ (x : ℕ). b ∷ chain π v fuel x) (ap (pdaBlock (π .drive)) q ∙ pda-back (π .drive) c)
+
+  pub head-chain : (fuel b : ℕ) → headOf 0 (chain π v (suc fuel) b) ≡ b
+  unfolding chain headOf
+  head-chain fuel b = refl
+
+  pub chain-short : (fuel b : ℕ) → length (chain π v fuel b) ≤ fuel
+  unfolding chain
+  chain-short zero b = omega arith
+  chain-short (suc fuel) b = go (eqb (pair v b nextAt) 0) (chain-short fuel (pdaBlock (π .drive) (pair v b nextAt)))
+    where
+      go : (t : Bool) → length (chain π v fuel (pdaBlock (π .drive) (pair v b nextAt))) ≤ fuel
+          → length (b ∷ elim t [ true ↦ [] | false ↦ chain π v fuel (pdaBlock (π .drive) (pair v b nextAt)) ]) ≤ suc fuel
+      go true ih = omega arith
+      go false ih = omega arith
+
+-- ---- numbers of blocks in a list of the partition's are at most e
+
+module _ (π : Partition) where
+  pub head-in : (l : List ℕ) → within π l ≡ true → headOf 0 l ≤ π .e
+  unfolding within headOf
+  head-in [] h = omega arith
+  head-in (x ∷ l) h = inside-of π x (both-left _ _ h) .1
+
+  pub last-in : (d : ℕ) (l : List ℕ) → d ≤ π .e → within π l ≡ true → lastOf d l ≤ π .e
+  unfolding within lastOf
+  last-in d [] m h = m
+  last-in d (x ∷ l) m h = last-in x l (inside-of π x (both-left _ _ h) .1) (both-right _ _ h)
+
+  pub above-in : (b : ℕ) (l : List ℕ) → within π l ≡ true → above b l ≤ π .e
+  unfolding within above
+  above-in b [] h = omega arith
+  above-in b (x ∷ l) h = go (ltb b x) (above-in b l (both-right _ _ h))
+    where
+      go : (t : Bool) → above b l ≤ π .e → pick t x (above b l) ≤ π .e
+      go true ih = inside-of π x (both-left _ _ h) .1
+      go false ih = ih
+
+  pub below-in : (b : ℕ) (l : List ℕ) → within π l ≡ true → below b l ≤ π .e
+  unfolding within below
+  below-in b [] h = omega arith
+  below-in b (x ∷ l) h = go (ltb x b) (eqb (below b l) 0) (below-in b l (both-right _ _ h))
+    where
+      go : (t u : Bool) → below b l ≤ π .e → pick t (pick u x (below b l)) 0 ≤ π .e
+      go true true ih = inside-of π x (both-left _ _ h) .1
+      go true false ih = ih
+      go false u ih = omega arith
+
+-- ---- numbers in a row that pass
 
 module _ (P : ℕ → Bool) where
   above-all : (b i k : ℕ) → b < i → above b (those i k P) ≡ headOf 0 (those i k P)
@@ -57,15 +120,6 @@ module _ (P : ℕ → Bool) where
       go true ih = inr (omega arith)
       go false (inl z) = inl z
       go false (inr z) = inr (omega arith)
-
-  pub head-most : (i k : ℕ) → headOf 0 (those i k P) ≤ i + k
-  unfolding headOf those
-  head-most i zero = omega arith
-  head-most i (suc k) = go (P i) (head-most (suc i) k)
-    where
-      go : (t : Bool) → headOf 0 (those (suc i) k P) ≤ suc i + k → headOf 0 (pick t (i ∷ those (suc i) k P) (those (suc i) k P)) ≤ i + suc k
-      go true ih = omega arith
-      go false ih = omega arith
 
   pub occ-low : (b i k : ℕ) → b < i → occ b (those i k P) ≡ 0
   unfolding occ those
@@ -109,16 +163,6 @@ module _ (P : ℕ → Bool) where
     next-down : (i k : ℕ) → Next i (suc k) → Next (suc i) k
     next-down i k h b l m q = h b (omega arith) (omega arith) q ∙ ap (λ (y : ℕ). orNil (π .drive) (headOf 0 (those (suc b) y P))) (let w : i + suc k - suc b ≡ suc i + k - suc b = omega arith in w)
 
-    pub chain-end : (fuel b : ℕ) → pair u b nextAt ≡ 0 → chain π u (suc fuel) b ≡ b ∷ []
-    unfolding chain
-    chain-end fuel b q = ap (λ (t : Bool). let r : List ℕ = elim t [ true ↦ [] | false ↦ chain π u fuel (pdaBlock (π .drive) (pair u b nextAt)) ] in b ∷ r) (eq-eqb _ _ q)
-
-    pub chain-on : (fuel b c : ℕ) → pair u b nextAt ≡ pda (π .drive) c → chain π u (suc fuel) b ≡ b ∷ chain π u fuel c
-    unfolding chain
-    chain-on fuel b c q =
-        ap (λ (t : Bool). let r : List ℕ = elim t [ true ↦ [] | false ↦ chain π u fuel (pdaBlock (π .drive) (pair u b nextAt)) ] in b ∷ r) (ne-eqb (pair u b nextAt) 0 (λ z. omega (arith, pda-pos (π .drive) c, q)))
-        ∙ ap (λ (x : ℕ). b ∷ chain π u fuel (pdaBlock (π .drive) x)) q ∙ ap (λ (x : ℕ). b ∷ chain π u fuel x) (pda-back (π .drive) c)
-
     pub walk : (i k fuel : ℕ) → 0 < i → k ≤ fuel → Next i k → those i k P ≢ [] → chain π u fuel (headOf 0 (those i k P)) ≡ those i k P
     unfolding those headOf
     walk i zero fuel p l h n = absurd (n refl)
@@ -137,10 +181,10 @@ module _ (P : ℕ → Bool) where
 
             on : (z : Bool) → eqb (headOf 0 R) 0 ≡ z → chain π u (suc fuel) i ≡ i ∷ R
             on true z =
-                chain-end fuel i (hx ∙ ap (λ (t : Bool). pick t 0 (pda (π .drive) (headOf 0 R))) z)
+                chain-end π u fuel i (hx ∙ ap (λ (t : Bool). pick t 0 (pda (π .drive) (headOf 0 R))) z)
                 ∙ ap (λ (l : List ℕ). i ∷ l) (sym (head-zero (suc i) k (omega arith) (eqb-true _ _ z)))
             on false z =
-                chain-on fuel i (headOf 0 R) (hx ∙ ap (λ (t : Bool). pick t 0 (pda (π .drive) (headOf 0 R))) z)
+                chain-on π u fuel i (headOf 0 R) (hx ∙ ap (λ (t : Bool). pick t 0 (pda (π .drive) (headOf 0 R))) z)
                 ∙ ap (λ (l : List ℕ). i ∷ l) (ih (λ w. eqb-false (headOf 0 R) 0 z (ap (headOf 0) w)))
         go false q ne ih ih′ = ih′ ne
 
@@ -228,12 +272,12 @@ module _ (P : ℕ → Bool) where
           go (P i) (omega arith) (ih (omega arith)) ∙ ap (λ (n : ℕ). lastOf 0 (those i n P)) (let w : suc (b - suc i) ≡ b - i = omega arith in w)
 
   pub within-those : (π : Partition) (i k : ℕ) → π .s < i → i + k ≤ suc (π .e) → within π (those i k P) ≡ true
-  unfolding within those inside
+  unfolding within those
   within-those π i zero h l = refl
   within-those π i (suc k) h l = go (P i) (within-those π (suc i) k (omega arith) (omega arith))
     where
       go : (t : Bool) → within π (those (suc i) k P) ≡ true → within π (pick t (i ∷ those (suc i) k P) (those (suc i) k P)) ≡ true
-      go true ih = both-of (both-of (lt-ltb (π .s) i h) (le-leb i (π .e) (omega arith))) ih
+      go true ih = both-of (of-inside π i h (omega arith)) ih
       go false ih = ih
 
   -- ---- how many
@@ -255,3 +299,6 @@ module _ (P : ℕ → Bool) where
       go : (t : Bool) → length (pick t (i ∷ those (suc i) k P) (those (suc i) k P)) ≡ pick t 1 0 + length (those (suc i) k P)
       go true = omega arith
       go false = omega arith
+
+  pub length-most : (i k : ℕ) → length (those i k P) ≤ k
+  length-most i k = omega (arith, length-those i k, count-most k (λ j. P (i + j)))

@@ -21,6 +21,7 @@ use Rattle.frame.specs.Reading.{two, put2-off, put2-here, put-off}
 use Rattle.frame.specs.Sound.{Starts, occ-here, occ-more, after₁, firsts, free-starts, free-in, free-not, free-once, sound-once, sound-within, sound-chained, sound-tail, sound-number}
 use Rattle.frame.specs.FreeChain.{IsFree}
 use Rattle.frame.specs.Taking.{occ-append, from, from-next, free-from, occ-from}
+use Rattle.frame.specs.Joined.{within-end, chained-end, chained-links, last-both}
 
 -- ---- the first blocks of a chain
 
@@ -46,32 +47,6 @@ module _ (π : Partition) (v : View) where
       go : (t : Bool) → eqb x b ≡ t → 0 < pick t 1 0 + occ x (firsts π v n (after₁ π v b)) → (0 < occ x (firsts π v n (after₁ π v b)) → Reached n (after₁ π v b) x) → Reached (suc n) b x
       go true q h ih = record { i = 0; less = omega arith; is = eqb-true x b q }
       go false q h ih = let y = ih (omega arith) in record { i = suc (y .i); less = omega (arith, y .less); is = y .is ∙ from-next π v b (y .i) }
-
-  -- the end of a chained list is chained
-  pub chained-end : (x : ℕ) (l m : List ℕ) → chained π v x (l ++ m) ≡ true → chained π v (lastOf x l) m ≡ true
-  unfolding chained lastOf
-  chained-end x [] m h = h
-  chained-end x (y ∷ l) m h = chained-end y l m (both-right _ _ (both-right _ _ h))
-
-pub within-end : (π : Partition) (l m : List ℕ) → within π (l ++ m) ≡ true → within π m ≡ true
-unfolding within
-within-end π [] m h = h
-within-end π (y ∷ l) m h = within-end π l m (both-right _ _ h)
-
-pub last-end : (x : ℕ) (l : List ℕ) (y : ℕ) (m : List ℕ) → lastOf x (l ++ (y ∷ m)) ≡ lastOf y m
-unfolding lastOf
-last-end x [] y m = refl
-last-end x (z ∷ l) y m = last-end z l y m
-
--- a list whose blocks are as they were is chained as it was
-pub chained-kept : (π : Partition) (v W : View) (x : ℕ) (l : List ℕ) → ((b : ℕ) → 0 < occ b l → W b ≡ v b) → chained π v x l ≡ true → chained π W x l ≡ true
-unfolding chained
-chained-kept π v W x [] h k = refl
-chained-kept π v W x (y ∷ l) h k =
-    let e = h y (omega (arith, occ-here y l)) in
-    both-of (ap (λ (z : Rec). eqb (two z previousAt) (orNil (π .drive) x)) e ∙ both-left _ _ k)
-    (both-of (ap (λ (z : Rec). eqb (two z nextAt) (orNil (π .drive) (headOf 0 l))) e ∙ both-left _ _ (both-right _ _ k))
-    (chained-kept π v W y l (λ b m. h b (omega (arith, m, occ-more b y l))) (both-right _ _ (both-right _ _ k))))
 
 append-two : (l m n : List ℕ) → (l ++ m) ++ n ≡ l ++ (m ++ n)
 append-two [] m n = refl
@@ -144,8 +119,11 @@ module _ (π : Partition) (v : View) (so : sound π v ≡ true) (n : ℕ) (room 
         let k = chained-end π v 0 (firsts π v n (freeHead π v)) (freeAt π v n ∷ s .rest) (sym (ap (chained π v 0) free-is) ∙ sound-chained π v so) in
         both-of (eq-eqb _ 0 (ap (λ (x : Rec). two x 6) (d .first) ∙ put2-here 6 0 _))
         (both-of (ap (λ (x : ℕ). eqb x (orNil (π .drive) (headOf 0 (s .rest)))) (ap (λ (x : Rec). two x 4) (d .first) ∙ next) ∙ both-left _ _ (both-right _ _ k))
-        (chained-kept π v W (freeAt π v n) (s .rest) (λ b m. left-kept b (omega (arith, m, occ-more b (freeAt π v n) (s .rest))) (rest-apart b m)) (both-right _ _ (both-right _ _ k))))
+        (chained-links π v W (freeAt π v n) (s .rest) (λ b m. same b (left-kept b (omega (arith, m, occ-more b (freeAt π v n) (s .rest))) (rest-apart b m))) (both-right _ _ (both-right _ _ k))))
       where
+        same : (b : ℕ) → W b ≡ v b → (pair W b nextAt ≡ pair v b nextAt) × (pair W b previousAt ≡ pair v b previousAt)
+        same b q = (ap (λ (x : Rec). two x nextAt) q, ap (λ (x : Rec). two x previousAt) q)
+
         next : two (newFirst (π .drive) v (freeAt π v n)) 4 ≡ pair v (freeAt π v n) 4
         next = ap₂ (λ (x y : ℕ). x + 65536 * y)
             (put2-off 6 0 _ 4 (λ z. omega arith) (λ z. omega arith) ∙ put-off 3 _ _ 4 (λ z. omega arith))
@@ -181,7 +159,7 @@ module _ (π : Partition) (v : View) (so : sound π v ≡ true) (n : ℕ) (room 
       ways = ways;
       once = once;
       head = ap (λ (x : ℕ). isLda (π .drive) x (freeAt π v n)) (ap (λ (x : Rec). two x 8) (d .pib) ∙ put2-here 8 _ _) ∙ lda-self π (freeAt π v n);
-      tail = ap₂ (isLda (π .drive)) (ap (λ (x : Rec). two x 10) (d .pib) ∙ pair-off 10 (omega arith) (omega arith)) (sym (last-end 0 (firsts π v n (freeHead π v)) (freeAt π v n) (s .rest)) ∙ sym (ap (lastOf 0) free-is)) ∙ sound-tail π v so;
+      tail = ap₂ (isLda (π .drive)) (ap (λ (x : Rec). two x 10) (d .pib) ∙ pair-off 10 (omega arith) (omega arith)) (sym (last-both 0 (firsts π v n (freeHead π v)) left) ∙ sym (ap (lastOf 0) free-is)) ∙ sound-tail π v so;
       number = ap (λ (x : Rec). two x 12) (d .pib) ∙ number;
       some = omega arith;
     }

@@ -14,7 +14,6 @@ use Rattle.image.specs.Image.{view, Bytes}
 use Rattle.image.specs.Stores.{Fits}
 use Rattle.volume.specs.Keys.{child, first}
 use Rattle.volume.specs.Plans.{trimmed}
-use Rattle.volume.specs.Writes.{put2If}
 
 pub put-fits : (i x : ℕ) {r : Rec} → i < 264 → x < 65536 → Fits r → Fits (put i x r)
 unfolding put
@@ -31,11 +30,6 @@ put-fits i x {r} hi hx h = record { small = λ w. low w (eqb w i); ends = λ w k
 pub put2-fits : (i x : ℕ) {r : Rec} → i < 263 → x < 4294967296 → Fits r → Fits (put2 i x r)
 unfolding put2
 put2-fits i x hi hx h = put-fits i (x % 65536) (omega arith) (omega arith) (put-fits (i + 1) (x / 65536) (omega arith) (omega arith) h)
-
-pub opt-fits : (t : Bool) (i x : ℕ) {r : Rec} → (t ≡ true → i < 263) → x < 4294967296 → Fits r → Fits (put2If t i x r)
-unfolding put2If
-opt-fits true i x hi hx h = put2-fits i x (hi refl) hx h
-opt-fits false i x hi hx h = h
 
 pub blank-fits : Fits blank
 unfolding blank

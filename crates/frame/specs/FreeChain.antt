@@ -5,24 +5,26 @@ use mathlib.Core.List.{List, [], _∷_}
 use mathlib.Core.Bool.{Bool, true, false, _||_, not}
 use Prim.Native.Nat.{ℕ, zero, suc, _+_, _-_, _≤_, _<_}
 use native.Mathlib.Omega.{arith}
-use lib.Dec.{leb, ltb, eqb}
+use lib.Dec.{eqb}
 use lib.ListN.{length}
-use borrow.Author.Tests.{ltb-true, ltb-false, eqb-true, lt-ltb, le-ltb, eq-eqb, ne-eqb, le-leb, lt-leb, leb-true, leb-false}
-use Rattle.base.specs.Tests.{pick, both, every, headOf, lastOf, occ}
-use Rattle.drive.specs.Address.{pda}
+use borrow.Author.Tests.{ltb-false, eqb-true, lt-ltb, le-ltb, eq-eqb, lt-leb, leb-false}
+use Rattle.base.specs.Tests.{pick, both, every, headOf, lastOf, occ, count}
 use Rattle.image.specs.View.{View, Rec, pair}
 use Rattle.base.specs.Laws.{cons-same, all-at, all-of, every-at, both-left, both-right, both-of}
-use Rattle.base.specs.Sums.{sum, sum-add, sum-nil, sum-most, sum-here}
+use Rattle.base.specs.Sums.{sum, sum-add, sum-nil, sum-most, sum-here, sum-same, count-sum}
 use Rattle.volume.specs.Words.{nextAt, previousAt, slotAt, freeHeadAt, freeTailAt, numberFreeAt}
 use Rattle.volume.specs.Keys.{home, number, child, first}
-use Rattle.volume.specs.Files.{isLda, inside, within, candidate, len, spot, present, wellFormed, owned, above, below, link, linkTest, linked, free, chain, chained, sound, freeSound}
+use Rattle.volume.specs.Files.{isLda, inside, within, candidate, len, spot, present, wellFormed, owned, above, below, link, linkTest, linked, free, chain, chained, sound, freeSound, fileOf, blockAt}
 use Rattle.volume.specs.declared.Partition.{Partition}
-use Rattle.volume.specs.Index.{span-at, span-of, unless-at, unless-of, or-at, or-of, present-low, present-high}
-use Rattle.volume.specs.Order.{above-is, below-is}
-use Rattle.volume.specs.Frame.{Clean, Shape, kept-len, kept-present, kept-spot, kept-link, kept-above, kept-below}
+use Rattle.volume.specs.Index.{span-at, span-of, unless-at, unless-of, or-at, or-of, present-low, present-high, member-owned, file-back}
+use Rattle.volume.specs.Frame.{Clean, Shape, kept-len, kept-present, kept-spot, kept-next, kept-prev}
 use Rattle.frame.specs.Reading.{two}
 use Rattle.frame.specs.Repair.{lda-block}
 use Rattle.frame.specs.Chain.{chain-end, chain-on}
+use Rattle.volume.specs.Reads.{inside-of, or-pda, of-inside}
+use Rattle.frame.specs.Turn.{Turn}
+use Rattle.frame.specs.Sound.{sound-clean, sound-linked}
+use mathlib.Core.Logic.{_≢_}
 
 module _ (π : Partition) (v : View) (f : ℕ) where
   -- linked, rule by rule
@@ -49,38 +51,55 @@ module _ (π : Partition) (v : View) (f : ℕ) where
       (cons-same (eq-eqb _ _ (h .next k p)) (cons-same (eq-eqb _ _ (h .prev k p))
       (cons-same {l = []} (or-of _ _ (λ q. all-of 128 _ (λ i n. or-of _ _ (λ g. eq-eqb _ _ (h .tail k i (leb-false home k q) p n (ltb-false _ _ g)))))) refl)))))
 
--- a file whose blocks are all as they were is linked as it was
-pub links-kept : (π : Partition) (v W : View) (g : ℕ) → wellFormed π v g ≡ true → Shape π v W g → ((k : ℕ) → present π v g k ≡ true → W (spot π v g k) ≡ v (spot π v g k)) → Links π v g → Links π W g
-links-kept π v W g wf s same h = record {
-  next = λ k p. let q = kept-present π v W g s k ∙ p in
-      ap (λ (b : ℕ). pair W b nextAt) (sym (kept-spot π v W g s k q)) ∙ ap (λ (x : Rec). two x nextAt) (same k q) ∙ h .next k q
-      ∙ kept-link π v W g s (above π v g k) (λ n. above-is π v g wf k (present-high π v g k q) .hit n .0) ∙ ap (link π W g) (kept-above π v W g s k);
-  prev = λ k p. let q = kept-present π v W g s k ∙ p in
-      ap (λ (b : ℕ). pair W b previousAt) (sym (kept-spot π v W g s k q)) ∙ ap (λ (x : Rec). two x previousAt) (same k q) ∙ h .prev k q
-      ∙ kept-link π v W g s (below π v g k) (λ n. below-is π v g wf k (present-low π v g k q) .hit n .0) ∙ ap (link π W g) (kept-below π v W g s k);
+-- a file of the same form, whose blocks have the same links, and whose pointer blocks the same entries, is linked as it was
+pub links-same : (π : Partition) (v W : View) (g : ℕ) → Shape π v W g
+    → ((k : ℕ) → present π v g k ≡ true → (pair W (spot π v g k) nextAt ≡ pair v (spot π v g k) nextAt) × (pair W (spot π v g k) previousAt ≡ pair v (spot π v g k) previousAt))
+    → ((k : ℕ) → k < home → present π v g k ≡ true → W (spot π v g k) ≡ v (spot π v g k)) → Links π v g → Links π W g
+links-same π v W g s same inner h = record {
+  next = λ k p. let q = kept-present π v W g s k ∙ p in ap (λ (b : ℕ). pair W b nextAt) (sym (kept-spot π v W g s k q)) ∙ same k q .0 ∙ h .next k q ∙ kept-next π v W g s k;
+  prev = λ k p. let q = kept-present π v W g s k ∙ p in ap (λ (b : ℕ). pair W b previousAt) (sym (kept-spot π v W g s k q)) ∙ same k q .1 ∙ h .prev k q ∙ kept-prev π v W g s k;
   tail = λ k i l p m n. let q = kept-present π v W g s k ∙ p in
-      ap (λ (b : ℕ). pair W b (slotAt i)) (sym (kept-spot π v W g s k q)) ∙ ap (λ (x : Rec). two x (slotAt i)) (same k q)
+      ap (λ (b : ℕ). pair W b (slotAt i)) (sym (kept-spot π v W g s k q)) ∙ ap (λ (x : Rec). two x (slotAt i)) (inner k l q)
       ∙ h .tail k i l q m (subst (λ (x : ℕ). x ≤ first (child k (slotAt i))) (sym (kept-len π v W g s)) n);
 }
+
+-- so is one whose blocks are all as they were
+pub links-kept : (π : Partition) (v W : View) (g : ℕ) → Shape π v W g → ((k : ℕ) → present π v g k ≡ true → W (spot π v g k) ≡ v (spot π v g k)) → Links π v g → Links π W g
+links-kept π v W g s same = links-same π v W g s (λ k p. (ap (λ (x : Rec). two x nextAt) (same k p), ap (λ (x : Rec). two x previousAt) (same k p))) (λ k _. same k)
+
+-- a change of one file of a sound partition that leaves the blocks of the others alone: those are linked as before
+pub links-others : (π : Partition) (v D : View) (f : ℕ) → Turn π v D f → sound π v ≡ true → ((b : ℕ) → owned π v b ≡ true → fileOf π v b ≢ f → D b ≡ v b)
+    → (g : ℕ) → g ≢ f → candidate π D g ≡ true → Links π D g
+links-others π v D f t ok h g n k =
+    let c = t .cands g n ∙ k in
+    let wf = sound-clean π v ok g c in
+    links-kept π v D g (t .others g n c .shape) (λ i p. h _ (member-owned π v g c wf i p) (λ z. n (sym (file-back π v g c wf i p) ∙ z))) (links-of π v g (sound-linked π v ok g c))
 
 -- ---- a list of distinct blocks of the partition is no longer than the partition
 
 pub length-sum : (π : Partition) (l : List ℕ) → (π .s) < (π .e) → within π l ≡ true → length l ≡ sum (π .e - (π .s)) (λ i. occ (suc (π .s + i)) l)
-unfolding within occ inside
+unfolding within occ
 length-sum π [] g h = sym (sum-nil (π .e - (π .s)))
 length-sum π (x ∷ l) g h =
-    let n = both-left (both (ltb (π .s) x) (leb x (π .e))) _ h in
-    let lo = ltb-true (π .s) x (both-left _ _ n) in
-    let hi = leb-true x (π .e) (both-right _ _ n) in
-    omega (arith, length-sum π l g (both-right _ _ h), sum-here (π .s) (π .e - (π .s)) x lo (omega arith), sum-add (π .e - (π .s)) (λ i. pick (eqb (suc (π .s + i)) x) 1 0) (λ i. occ (suc (π .s + i)) l))
-
-pub pigeons : (π : Partition) (l : List ℕ) → (π .s) < (π .e) → within π l ≡ true → ((b : ℕ) → inside π b ≡ true → occ b l ≤ 1) → length l ≤ (π .e) - (π .s)
-unfolding inside
-pigeons π l g h k = omega (arith, length-sum π l g h, sum-most (π .e - (π .s)) (λ i. occ (suc (π .s + i)) l) (λ i m. k (suc (π .s + i)) (both-of (lt-ltb (π .s) (suc (π .s + i)) (omega arith)) (le-leb (suc (π .s + i)) (π .e) (omega arith)))))
+    let i = inside-of π x (both-left _ _ h) in
+    omega (arith, length-sum π l g (both-right _ _ h), sum-here (π .s) (π .e - (π .s)) x (i .0) (omega (arith, i .1)), sum-add (π .e - (π .s)) (λ i. pick (eqb (suc (π .s + i)) x) 1 0) (λ i. occ (suc (π .s + i)) l))
 
 pub in-range : (π : Partition) (i : ℕ) → i < (π .e) - (π .s) → inside π (suc (π .s + i)) ≡ true
-unfolding inside
-in-range π i m = both-of (lt-ltb (π .s) (suc (π .s + i)) (omega arith)) (le-leb (suc (π .s + i)) (π .e) (omega arith))
+in-range π i m = of-inside π (suc (π .s + i)) (omega arith) (omega arith)
+
+-- with each unowned block once, and no other, it is as long as those are many
+pub length-unowned : (π : Partition) (v : View) (l : List ℕ) → π .s < π .e → within π l ≡ true → ((b : ℕ) → inside π b ≡ true → occ b l ≡ pick (owned π v b) 0 1)
+    → length l ≡ count (π .e - π .s) (λ i. not (owned π v (blockAt π i)))
+length-unowned π v l g h once =
+    length-sum π l g h ∙ sum-same (π .e - π .s) _ _ (λ i m. once (blockAt π i) (in-range π i m) ∙ flip (owned π v (blockAt π i)))
+    ∙ sym (count-sum (π .e - π .s) (λ i. not (owned π v (blockAt π i))))
+  where
+    flip : (t : Bool) → _≡_ {A = ℕ} (pick t 0 1) (pick (not t) 1 0)
+    flip true = refl
+    flip false = refl
+
+pub pigeons : (π : Partition) (l : List ℕ) → (π .s) < (π .e) → within π l ≡ true → ((b : ℕ) → inside π b ≡ true → occ b l ≤ 1) → length l ≤ (π .e) - (π .s)
+pigeons π l g h k = omega (arith, length-sum π l g h, sum-most (π .e - (π .s)) (λ i. occ (suc (π .s + i)) l) (λ i m. k (suc (π .s + i)) (in-range π i m)))
 
 module _ (π : Partition) where
   -- ---- the free chain
@@ -97,13 +116,11 @@ module _ (π : Partition) where
       pub some : 0 < length l
 
     chain-list : (fuel x y : ℕ) (l : List ℕ) → within π (y ∷ l) ≡ true → chained π v x (y ∷ l) ≡ true → length (y ∷ l) ≤ fuel → chain π v fuel y ≡ y ∷ l
-    unfolding chained headOf within inside
+    unfolding chained headOf within
     chain-list zero x y l h k m = absurd (omega arith)
-    chain-list (suc n) x y [] h k m = chain-end (λ _. true) π v n y (eqb-true _ _ (both-left _ _ (both-right _ _ k)))
+    chain-list (suc n) x y [] h k m = chain-end π v n y (eqb-true _ _ (both-left _ _ (both-right _ _ k)))
     chain-list (suc n) x y (z ∷ l) h k m =
-        let i = both-left _ _ (both-right _ _ h) in
-        let lo = ltb-true (π .s) z (both-left _ _ i) in
-        chain-on (λ _. true) π v n y z (eqb-true _ _ (both-left _ _ (both-right _ _ k)) ∙ ap (λ (t : Bool). pick t 0 (pda (π .drive) z)) (ne-eqb z 0 (λ q. omega arith)))
+        chain-on π v n y z (eqb-true _ _ (both-left _ _ (both-right _ _ k)) ∙ or-pda π z (both-left _ _ (both-right _ _ h)))
         ∙ ap (λ (r : List ℕ). y ∷ r) (chain-list n y z l (both-right _ _ h) (both-right _ _ (both-right _ _ k)) (omega arith))
 
   free-list : (v : View) (l : List ℕ) → (π .s) < (π .e) → IsFree v l → free π v ≡ l
@@ -122,7 +139,7 @@ module _ (π : Partition) where
   sound-of v l g h c k = both-of
       (all-of (π .e - (π .s)) _ (λ i m. ok (suc (π .s + i)) (candidate π v (suc (π .s + i))) refl))
       (ap every
-      (cons-same (all-of (π .e - (π .s)) _ (λ i m. eq-eqb _ _ (ap (occ (suc (π .s + i))) is ∙ h .once (suc (π .s + i)) (ins i m))))
+      (cons-same (all-of (π .e - (π .s)) _ (λ i m. eq-eqb _ _ (ap (occ (suc (π .s + i))) is ∙ h .once (suc (π .s + i)) (in-range π i m))))
       (cons-same (ap (within π) is ∙ h .inn)
       (cons-same (ap (chained π v 0) is ∙ h .ways)
       (cons-same (ap (λ (x : List ℕ). isLda (π .drive) (pair v (π .s) freeHeadAt) (headOf 0 x)) is ∙ h .head)
@@ -130,9 +147,6 @@ module _ (π : Partition) where
       (cons-same (eq-eqb _ _ (h .number ∙ ap length (sym is)))
       (cons-same {l = []} (lt-ltb _ _ (subst (λ (x : List ℕ). 0 < length x) (sym is) (h .some))) refl))))))))
     where
-      ins : (i : ℕ) → i < (π .e) - (π .s) → inside π (suc (π .s + i)) ≡ true
-      ins i m = in-range π i m
-
       ok : (f : ℕ) (t : Bool) → candidate π v f ≡ t → (not t || both (wellFormed π v f) (linked π v f)) ≡ true
       ok f true q = both-of (c f q) (of-links π v f (k f q))
       ok f false q = refl

@@ -6,10 +6,11 @@ pub mod Sound
 pub mod Restart
 pub mod Mended
 pub mod Fitting
-pub mod Clean
+pub mod Fitted
 pub mod Needed
 pub mod Reading
 pub mod FreeChain
+pub mod Joined
 pub mod Taking
 pub mod Drawn
 pub mod Listed

@@ -7,20 +7,21 @@ use Prim.Native.Nat.{ℕ, zero, suc, _+_, _-_, _<_}
 use native.Mathlib.Omega.{arith}
 use lib.Dec.{eqb}
 use lib.ListN.{length, length-map}
-use borrow.Author.Tests.{ltb-true, eqb-true, eqb-false, eq-eqb, ne-eqb}
+use borrow.Author.Tests.{eqb-true, eqb-false, eq-eqb, ne-eqb}
 use Rattle.base.specs.Tests.{pick, those, headOf, lastOf, occ}
-use Rattle.base.specs.Laws.{both-left, both-of}
+use Rattle.base.specs.Laws.{both-of, never}
 use Rattle.drive.specs.Address.{pda, orNil}
 use Rattle.image.specs.View.{View}
 use Rattle.volume.specs.Search.{seek}
 use Rattle.volume.specs.Keys.{home, low, span}
 use Rattle.volume.specs.KeyLaws.{low-pos, low-home, span-end}
-use Rattle.volume.specs.Files.{inside, within, candidate, len, spot, present, wellFormed, above, least, link, size, chained, key}
+use Rattle.volume.specs.Files.{within, candidate, len, spot, present, wellFormed, above, least, link, size, chained, key}
 use Rattle.volume.specs.declared.Partition.{Partition}
 use Rattle.volume.specs.Index.{wf-of, member, key-back, present-low, present-high}
-use Rattle.volume.specs.Order.{Prev, prev-one, below-is, least-present}
+use Rattle.volume.specs.Order.{Prev, prev-one, least-present, below-prev}
 use Rattle.frame.specs.Chain.{occ-in, length-those}
 use Rattle.frame.specs.FreeChain.{Links}
+use Rattle.volume.specs.Reads.{or-pda}
 
 -- the first of a list is what a search finds
 pub head-seek : (n k : ℕ) (P : ℕ → Bool) → headOf 0 (those k n P) ≡ seek n k P
@@ -57,15 +58,7 @@ module _ (π : Partition) (v : View) (f : ℕ) where
     onto k p h = record { hit = λ _. (h, omega arith); none = λ i _ l m. absurd (omega (arith, m (λ z. omega arith))) }
 
     none-below : Prev P (low (len v f)) 0
-    none-below = record { hit = λ n. absurd (n refl); none = λ i p l _. go i l (P i) refl }
-      where
-        go : (i : ℕ) → i < low (len v f) → (t : Bool) → P i ≡ t → t ≡ false
-        go i l true q = absurd (omega (arith, present-low π v f i q))
-        go i l false q = refl
-
-    spot-some : (k : ℕ) → P k ≡ true → spot π v f k ≢ 0
-    unfolding inside
-    spot-some k p z = omega (arith, z, ltb-true (π .s) (spot π v f k) (both-left _ _ (member π v f cf wf k p .ins)))
+    none-below = record { hit = λ n. absurd (n refl); none = λ i p l _. never _ (λ q. omega (arith, present-low π v f i q)) }
 
     or-link : (b : ℕ) → (b ≢ 0 → P b ≡ true) → orNil (π .drive) (blockOr b) ≡ link π v f b
     unfolding link
@@ -73,7 +66,7 @@ module _ (π : Partition) (v : View) (f : ℕ) where
       where
         go : (t : Bool) → eqb b 0 ≡ t → orNil (π .drive) (pick t 0 (spot π v f b)) ≡ pick t 0 (pda (π .drive) (spot π v f b))
         go true q = refl
-        go false q = ap (λ (t : Bool). pick t 0 (pda (π .drive) (spot π v f b))) (ne-eqb (spot π v f b) 0 (spot-some b (h (eqb-false b 0 q))))
+        go false q = or-pda π (spot π v f b) (member π v f cf wf b (h (eqb-false b 0 q)) .ins)
 
     pub head-map : (n k : ℕ) → 0 < k → headOf 0 (map (spot π v f) (those k n P)) ≡ blockOr (headOf 0 (those k n P))
     unfolding headOf those
@@ -111,7 +104,7 @@ module _ (π : Partition) (v : View) (f : ℕ) where
             → chained π v (blockOr b) (map (spot π v f) (pick t (k ∷ R) R)) ≡ true
         go false q x y = y q
         go true q x y =
-            both-of (eq-eqb _ _ (lk .prev k q ∙ ap (link π v f) (prev-one P k _ b (below-is π v f wf k (present-low π v f k q)) h) ∙ sym (or-link b (λ z. h .hit z .0))))
+            both-of (eq-eqb _ _ (lk .prev k q ∙ ap (link π v f) (prev-one P k _ b (below-prev π v f k) h) ∙ sym (or-link b (λ z. h .hit z .0))))
             (both-of (eq-eqb _ _ (lk .next k q ∙ ap (link π v f) (above-head n k (omega arith)) ∙ sym (or-link (headOf 0 R) (head-some n (suc k))) ∙ ap (orNil (π .drive)) (sym (head-map n (suc k) (omega arith)))))
             (subst (λ (z : ℕ). chained π v z (map (spot π v f) R) ≡ true) (ap (λ (t : Bool). pick t 0 (spot π v f k)) (ne-eqb k 0 (λ z. omega arith))) (x q)))
 

@@ -3,22 +3,22 @@ use mathlib.Core.Path.{_≡_, refl, sym, ap, ap₂, _∙_, subst}
 use mathlib.Core.Logic.{_≢_}
 use mathlib.Core.List.{List, [], _∷_}
 use mathlib.Core.Bool.{Bool, true, false, not, _||_}
-use Prim.Native.Nat.{ℕ, suc, _+_, _-_, _*_, _/_, _%_, _≤_, _<_}
+use Prim.Native.Nat.{ℕ, suc, _+_, _-_, _*_, _≤_, _<_}
 use native.Mathlib.Omega.{arith}
 use native.Mathlib.Nat.{le-refl}
 use lib.Dec.{leb, eqb}
 use lib.ListN.{length}
 use lib.Seq.{take-length}
-use borrow.Author.Tests.{ltb-true, ltb-false, lt-ltb, eq-eqb, le-leb, leb-true, leb-false}
+use borrow.Author.Tests.{ltb-false, lt-ltb, eq-eqb, le-leb, leb-false, not-true}
 use Rattle.base.specs.Tests.{pick, both, every, all, headOf, lastOf, occ}
 use Rattle.base.specs.Tests as tests
-use Rattle.base.specs.Laws.{cons-same, all-of, both-left, both-right, both-of}
+use Rattle.base.specs.Laws.{cons-same, all-of, both-of}
 use Rattle.drive.specs.Address.{ldaBlock, orNil}
 use Rattle.image.specs.View.{View, Rec, Store, after, pair, put, put2}
 use Rattle.volume.specs.Words.{nextAt, previousAt}
 use Rattle.volume.specs.Keys.{home, child, first}
 use Rattle.volume.specs.KeyLaws.{child-pair}
-use Rattle.volume.specs.Files.{isLda, inside, within, candidate, len, spot, present, wellFormed, fileOf, key, owned, unowned, above, below, link, tailTest, linkTest, linked, free, freeHead, chain, chained, sound, freeSound}
+use Rattle.volume.specs.Files.{isLda, within, candidate, len, spot, present, wellFormed, fileOf, key, owned, unowned, above, below, link, tailTest, linkTest, linked, free, freeHead, chain, chained, sound, freeSound}
 use Rattle.volume.specs.declared.Partition.{Partition}
 use Rattle.volume.specs.Index.{file-back, key-back, member-owned, owned-in, span-of, unless-of, or-of}
 use Rattle.volume.specs.Frame.{Shape, Clean, Formed, formed, Agree, kept-len, agree-clean, agree-owned, agree-fileOf, agree-key}
@@ -26,9 +26,8 @@ use Rattle.volume.specs.Plans.{trimmed, shaped, content, relinked, freed, repai
 use Rattle.frame.specs.Repair.{lda-block, address-names, links-off, mid-agree, repaired-mine, repaired-free}
 use Rattle.frame.specs.Restart.{Part, start, again, target, target-else, target-pib, repair-of, after-val, hits-tab-in, hits-pib, next-same, prev-same}
 use Rattle.frame.specs.Chain.{walk, Next, Prev, above-those, below-those, chained-those, within-those, occ-in}
-
-word : (x : ℕ) → x % 65536 + 65536 * (x / 65536) ≡ x
-word x = omega arith
+use Rattle.frame.specs.Reading.{word}
+use Rattle.volume.specs.Reads.{inside-of}
 
 module _ (π : Partition) (v : View) (c : Clean π v) where
   abbrev mended : View
@@ -61,22 +60,14 @@ module _ (π : Partition) (v : View) (c : Clean π v) where
   free-next : (b : ℕ) → (π .s) < b → b ≤ (π .e) → P b ≡ true → pair mended b nextAt ≡ orNil (π .drive) (tests.above b (unowned π v))
   unfolding freed P put put2
   free-next b l m q =
-      ap (λ (r : Rec). r 4 + 65536 * r 5) (mended-at b l m ∙ repaired-free π v (unowned π v) b (off (owned π v b) q))
+      ap (λ (r : Rec). r 4 + 65536 * r 5) (mended-at b l m ∙ repaired-free π v (unowned π v) b (not-true (owned π v b) q))
       ∙ word (orNil (π .drive) (tests.above b (unowned π v)))
-    where
-      off : (t : Bool) → not t ≡ true → t ≡ false
-      off true z = sym z
-      off false z = refl
 
   free-prev : (b : ℕ) → (π .s) < b → b ≤ (π .e) → P b ≡ true → pair mended b previousAt ≡ orNil (π .drive) (tests.below b (unowned π v))
   unfolding freed P put put2
   free-prev b l m q =
-      ap (λ (r : Rec). r 6 + 65536 * r 7) (mended-at b l m ∙ repaired-free π v (unowned π v) b (off (owned π v b) q))
+      ap (λ (r : Rec). r 6 + 65536 * r 7) (mended-at b l m ∙ repaired-free π v (unowned π v) b (not-true (owned π v b) q))
       ∙ word (orNil (π .drive) (tests.below b (unowned π v)))
-    where
-      off : (t : Bool) → not t ≡ true → t ≡ false
-      off true z = sym z
-      off false z = refl
 
   next : Next P π mended (suc (π .s)) ((π .e) - (π .s))
   unfolding unowned P
@@ -113,10 +104,9 @@ module _ (π : Partition) (v : View) (c : Clean π v) where
       at-key = agree-key π v mended c agree _ ob ∙ key-back π mended f cf (clean f cf) k p
 
       rec-is : mended (spot π mended f k) ≡ relinked π v (spot π mended f k)
-      unfolding inside
       rec-is =
-          let n = owned-in π v (spot π mended f k) ob in
-          mended-at _ (ltb-true _ _ (both-left _ _ n)) (leb-true _ _ (both-right _ _ n)) ∙ repaired-mine π v _ _ ob
+          let n = inside-of π _ (owned-in π v (spot π mended f k) ob) in
+          mended-at _ (n .0) (n .1) ∙ repaired-mine π v _ _ ob
 
       link-next : pair mended (spot π mended f k) nextAt ≡ link π mended f (above π mended f k)
       unfolding relinked put put2

@@ -4,17 +4,18 @@ use mathlib.Core.Bool.{Bool, true, false, true≢false}
 use Prim.Native.Nat.{ℕ, suc, _+_, _-_, _≤_, _<_}
 use native.Mathlib.Omega.{arith}
 use lib.Dec.{eqb}
-use borrow.Author.Tests.{ltb-true, leb-true, eqb-true, eq-eqb}
+use borrow.Author.Tests.{eqb-true, eq-eqb}
 use Rattle.base.specs.Tests.{pick, both, count}
-use Rattle.base.specs.Laws.{iff-eq, both-left, both-right, both-of}
+use Rattle.base.specs.Laws.{iff-eq, both-left, both-right, both-of, never}
 use Rattle.base.specs.Sums.{sum, sum-same, count-sum, count-by, count-only, count-nil}
 use Rattle.image.specs.View.{View}
 use Rattle.volume.specs.Keys.{home}
-use Rattle.volume.specs.Files.{blockAt, inside, candidate, wellFormed, isFile, len, spot, present, fileOf, key, owned, size}
+use Rattle.volume.specs.Files.{blockAt, candidate, wellFormed, isFile, len, spot, present, fileOf, key, owned, size}
 use Rattle.volume.specs.declared.Partition.{Partition}
 use Rattle.volume.specs.Index.{Own, own, file-candidate, file-formed, member, member-owned, file-back, key-back, present-high}
 use Rattle.volume.specs.Order.{size-is}
 use Rattle.frame.specs.Soft.{cand-in}
+use Rattle.volume.specs.Reads.{inside-of}
 
 -- what file f needs, or 0; what all files need
 unfoldable pub needs : Partition → View → ℕ → ℕ
@@ -22,10 +23,6 @@ needs π v f = pick (isFile π v f) (size π v f) 0
 
 unfoldable pub needed : Partition → View → ℕ
 needed π v = sum (π .e - π .s) (λ i. needs π v (blockAt π i))
-
-inside-of : (π : Partition) (b : ℕ) → inside π b ≡ true → (π .s < b) × (b ≤ π .e)
-unfolding inside
-inside-of π b h = (ltb-true _ _ (both-left _ _ h), leb-true _ _ (both-right _ _ h))
 
 module _ (π : Partition) (v : View) where
   abbrev pub m : ℕ
@@ -67,21 +64,17 @@ module _ (π : Partition) (v : View) where
             (eq-eqb (suc (0 + j)) (suc (key v (blockAt π i))) (let q : key v (blockAt π i) ≡ j = ap (key v) z ∙ key-back π v f c w j p in omega arith))
 
     none : (j : ℕ) → present π v f j ≡ false → (i : ℕ) → both (ofFile f i) (eqb (suc (0 + j)) (suc (key v (blockAt π i)))) ≡ false
-    none j p i = go (both (ofFile f i) (eqb (suc (0 + j)) (suc (key v (blockAt π i))))) refl
-      where
-        go : (t : Bool) → both (ofFile f i) (eqb (suc (0 + j)) (suc (key v (blockAt π i)))) ≡ t → t ≡ false
-        go false q = refl
-        go true q =
-            let z = eqb-true (suc (0 + j)) (suc (key v (blockAt π i))) (both-right _ _ q) in
-            let r : key v (blockAt π i) ≡ j = omega arith in
-            absurd (true≢false (sym (own-of f i (both-left _ _ q) .here) ∙ ap (present π v f) r ∙ p))
+    none j p i = never _ (λ q.
+        let z = eqb-true (suc (0 + j)) (suc (key v (blockAt π i))) (both-right _ _ q) in
+        let r : key v (blockAt π i) ≡ j = omega arith in
+        true≢false (sym (own-of f i (both-left _ _ q) .here) ∙ ap (present π v f) r ∙ p))
 
     pub file-size : count m (ofFile f) ≡ size π v f
     unfolding E
     file-size =
         count-by 0 E m (ofFile f) (λ i. suc (key v (blockAt π i))) (λ i l o. (omega arith, omega (arith, present-high π v f _ (own-of f i o .here))))
         ∙ sum-same E _ (λ j. pick (present π v f j) 1 0) (λ j _. one j (present π v f j) refl)
-        ∙ sym (count-sum E (present π v f)) ∙ sym (size-is π v f w E (omega arith))
+        ∙ sym (count-sum E (present π v f)) ∙ sym (size-is π v f E (omega arith))
       where
         one : (j : ℕ) (t : Bool) → present π v f j ≡ t → count m (λ i. both (ofFile f i) (eqb (suc (0 + j)) (suc (key v (blockAt π i))))) ≡ pick (present π v f j) 1 0
         one j true q =
@@ -90,11 +83,7 @@ module _ (π : Partition) (v : View) where
         one j false q = count-nil m _ (λ i _. none j q i) ∙ sym (ap (λ (t : Bool). pick t 1 0) q)
 
   no-file : (f i : ℕ) → isFile π v f ≡ false → ofFile f i ≡ false
-  no-file f i h = go (ofFile f i) refl
-    where
-      go : (t : Bool) → ofFile f i ≡ t → t ≡ false
-      go false q = refl
-      go true q = absurd (true≢false (sym (own-of f i q .file) ∙ h))
+  no-file f i h = never _ (λ q. true≢false (sym (own-of f i q .file) ∙ h))
 
   pub owned-needed : count m (λ i. owned π v (blockAt π i)) ≡ needed π v
   unfolding needed needs

@@ -3,7 +3,7 @@ use mathlib.Core.Path.{_≡_, refl, sym, ap, _∙_}
 use mathlib.Core.Logic.{_⊎_, inl, inr, _≢_}
 use mathlib.Core.List.{List}
 use mathlib.Core.Bool.{Bool, true, false}
-use Prim.Native.Nat.{ℕ, _+_, _*_, _/_, _%_, _<_}
+use Prim.Native.Nat.{ℕ, _<_}
 use native.Mathlib.Omega.{arith}
 use lib.Dec.{leb, ltb, eqb}
 use borrow.Author.Tests.{ltb-true, eqb-true, eq-eqb, ne-eqb, lt-leb}
@@ -11,15 +11,16 @@ use Rattle.base.specs.Tests.{pick, both}
 use Rattle.drive.specs.Address.{lda, ldaBlock}
 use Rattle.drive.specs.Laws.{lda-back}
 use Rattle.image.specs.View.{View, Rec, put, put2}
-use Rattle.base.specs.Laws.{both-left}
 use Rattle.volume.specs.Words.{nextAt, previousAt}
 use Rattle.volume.specs.Keys.{home, child, first, low}
 use Rattle.volume.specs.Files.{inside, isLda, address, owned, unowned}
 use Rattle.volume.specs.declared.Partition.{Partition}
 use Rattle.volume.specs.Index.{owned-not-pib}
 use Rattle.volume.specs.Frame.{Clean, Agree}
-use Rattle.frame.specs.Soft.{headed, headed-zero, both-no, tallyWord, spare, Soft, Quiet, soft-refl, soft-agree}
+use Rattle.frame.specs.Soft.{headed, headed-zero, tallyWord, spare, Soft, Quiet, soft-refl, soft-agree}
 use Rattle.volume.specs.Plans.{trimmed, shaped, content, relinked, freed, repaired}
+use Rattle.volume.specs.Steps.{both-no-2}
+use Rattle.volume.specs.Reads.{address-lda, off-pib}
 
 -- ---- addresses that are written
 
@@ -33,24 +34,12 @@ unfolding isLda
 lda-block π x b h = ap (ldaBlock (π .drive)) (eqb-true _ _ h) ∙ lda-back (π .drive) b
 
 pub address-names : (π : Partition) (o b : ℕ) → isLda (π .drive) (address (π .drive) o b) b ≡ true
-unfolding address
-address-names π o b = go (isLda (π .drive) o b) refl
-  where
-    go : (t : Bool) → isLda (π .drive) o b ≡ t → isLda (π .drive) (pick t o (lda (π .drive) b)) b ≡ true
-    go true q = q
-    go false q = lda-self π b
-
-address-kept : (π : Partition) (x b : ℕ) → isLda (π .drive) x b ≡ true → address (π .drive) x b ≡ x
-unfolding address
-address-kept π x b q = ap (λ (t : Bool). pick t x (lda (π .drive) b)) q
+address-names π o b = ap (λ (x : ℕ). isLda (π .drive) x b) (address-lda (π .drive) o b) ∙ lda-self π b
 
 pub address-twice : (π : Partition) (o b : ℕ) → address (π .drive) (address (π .drive) o b) b ≡ address (π .drive) o b
-address-twice π o b = address-kept π (address (π .drive) o b) b (address-names π o b)
+address-twice π o b = address-lda (π .drive) _ b ∙ sym (address-lda (π .drive) o b)
 
 -- ---- what repair leaves
-
-word : (x : ℕ) → x % 65536 + 65536 * (x / 65536) ≡ x
-word x = omega arith
 
 pub links-off : (x y : ℕ) (r : Rec) (w : ℕ) → w ≢ 4 → w ≢ 5 → w ≢ 6 → w ≢ 7 → put2 nextAt x (put2 previousAt y r) w ≡ r w
 unfolding put put2
@@ -70,7 +59,7 @@ module _ (n k : ℕ) where
           → pick u (trimmed n k r) r w ≡ r w
       go true q true z h = absurd (omega (arith, eqb-true k home q, ltb-true k home z))
       go false q true z (inl l) = trimmed-off r w (ap (λ (x : Bool). both x (leb n (first (child k w)))) (lt-leb 8 w l))
-      go false q true z (inr l) = trimmed-off r w (both-no (leb 8 w) (leb n (first (child k w))) l)
+      go false q true z (inr l) = trimmed-off r w (both-no-2 (leb 8 w) (leb n (first (child k w))) l)
       go t q false z h = refl
 
   -- done twice it is done once
@@ -139,12 +128,11 @@ module _ (π : Partition) (v : View) where
     mid-free b o (inr q) = inr (o, ap (headed π b) (q ∙ repaired-free (unowned π v) b o) ∙ headed-zero π b (freed π v (unowned π v) b) refl)
 
     pub mid-quiet : (b : ℕ) → inside π b ≡ true → Quiet π v b (v′ b)
-    unfolding inside
     mid-quiet b i = go (owned π v b) refl
       where
         go : (t : Bool) → owned π v b ≡ t → Quiet π v b (v′ b)
         go true o = inl (mid-soft b o)
-        go false o = mid-free b o (m b (λ z. omega (arith, ltb-true (π .s) b (both-left _ _ i))))
+        go false o = mid-free b o (m b (off-pib π b i))
 
     pub mid-agree : Agree π v v′
     mid-agree = soft-agree π v c v′ mid-quiet

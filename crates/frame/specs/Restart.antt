@@ -12,13 +12,13 @@ use Rattle.base.specs.Tests.{pick, tabFrom, headOf, lastOf}
 use Rattle.image.specs.View.{View, Rec, Store, after, upd, pair, put, put2}
 use Rattle.base.specs.Laws.{pick-same}
 use Rattle.volume.specs.Words.{nextAt, previousAt, freeHeadAt, freeTailAt}
-use Rattle.volume.specs.Files.{address, len, wellFormed, fileOf, key, owned, unowned, above, below, link}
+use Rattle.volume.specs.Files.{address, len, fileOf, key, owned, unowned, above, below, link}
 use Rattle.volume.specs.declared.Partition.{Partition}
-use Rattle.volume.specs.Index.{own, file-candidate, file-formed, owned-not-pib, present-low, present-high}
-use Rattle.volume.specs.Order.{above-is, below-is}
-use Rattle.volume.specs.Frame.{Shape, Clean, Formed, formed, kept-len, kept-above, kept-below, kept-link, agree-owned, agree-unowned, agree-fileOf, agree-key}
+use Rattle.volume.specs.Index.{own, file-candidate, owned-not-pib}
+use Rattle.volume.specs.Frame.{Shape, Clean, Formed, formed, kept-len, agree-owned, agree-unowned, agree-fileOf, agree-key, kept-next, kept-prev}
 use Rattle.volume.specs.Plans.{st, shaped, content, relinked, freed, repaired, repairedPib, repairPlan, stores, repairStores}
 use Rattle.frame.specs.Repair.{address-twice, links-off, shaped-twice, Mid, mid-agree, repaired-mine, repaired-free}
+use Rattle.frame.specs.Reading.{word}
 
 -- ---- stores that all write the record that R has for their block
 
@@ -56,9 +56,6 @@ of-tab R S i (suc k) h = (h i (omega arith), of-tab R S (suc i) k (λ b l. h b (
 
 -- ---- the records of repairStores are the same in a view that is partly repaired
 
-word : (x : ℕ) → x % 65536 + 65536 * (x / 65536) ≡ x
-word x = omega arith
-
 cover : (N M : ℕ) (r r′ : Rec) → ((w : ℕ) → w ≢ 4 → w ≢ 5 → w ≢ 6 → w ≢ 7 → r w ≡ r′ w) → put2 nextAt N (put2 previousAt M r) ≡ put2 nextAt N (put2 previousAt M r′)
 unfolding put put2
 cover N M r r′ h = fun-ext (λ w.
@@ -86,26 +83,17 @@ module _ (π : Partition) (v : View) (c : Clean π v) (v′ : View) (m : Mid π 
       go w (inr q) k = sym (ap (λ (r : Rec). r w) (q ∙ repaired-free π v (unowned π v) b o) ∙ k)
 
   module _ (b : ℕ) (o : owned π v b ≡ true) where
-    cf : wellFormed π v (fileOf π v b) ≡ true
-    cf = file-formed π v _ (own π v b o .file)
-
     kf : Shape π v v′ (fileOf π v b)
     kf = ag .shape (fileOf π v b) (file-candidate π v _ (own π v b o .file))
 
     pub next-same : link π v (fileOf π v b) (above π v (fileOf π v b) (key v b)) ≡ link π v′ (fileOf π v′ b) (above π v′ (fileOf π v′ b) (key v′ b))
     next-same =
-        let g = fileOf π v b in
-        let k = key v b in
-        kept-link π v v′ g kf (above π v g k) (λ n. above-is π v g cf k (present-high π v g k (own π v b o .here)) .hit n .0)
-        ∙ ap (link π v′ g) (kept-above π v v′ g kf k)
+        kept-next π v v′ (fileOf π v b) kf (key v b)
         ∙ ap₂ (λ (x j : ℕ). link π v′ x (above π v′ x j)) (agree-fileOf π v v′ c ag b o) (agree-key π v v′ c ag b o)
 
     pub prev-same : link π v (fileOf π v b) (below π v (fileOf π v b) (key v b)) ≡ link π v′ (fileOf π v′ b) (below π v′ (fileOf π v′ b) (key v′ b))
     prev-same =
-        let g = fileOf π v b in
-        let k = key v b in
-        kept-link π v v′ g kf (below π v g k) (λ n. below-is π v g cf k (present-low π v g k (own π v b o .here)) .hit n .0)
-        ∙ ap (link π v′ g) (kept-below π v v′ g kf k)
+        kept-prev π v v′ (fileOf π v b) kf (key v b)
         ∙ ap₂ (λ (x j : ℕ). link π v′ x (below π v′ x j)) (agree-fileOf π v v′ c ag b o) (agree-key π v v′ c ag b o)
 
     shape-same : (r : Rec) → shaped (len v (fileOf π v b)) (key v b) r ≡ shaped (len v′ (fileOf π v′ b)) (key v′ b) r

@@ -21,6 +21,7 @@ use Rattle.volume.specs.Files.{inside, candidate, len, spot, present, wellForme
 use Rattle.volume.specs.declared.Partition.{Partition}
 use Rattle.volume.specs.Index.{spot-home, present-home, wf-of, file-back, key-back, member-owned, owned-in}
 use Rattle.volume.specs.Frame.{SameHead, same-serial, head-of, Kept, Clean, Agree}
+use Rattle.volume.specs.Steps.{both-no-2}
 
 -- a block with the record r would be a candidate
 unfoldable pub headed : Partition → ℕ → Rec → Bool
@@ -34,6 +35,9 @@ module _ (π : Partition) where
   pub headed-same : (b : ℕ) {r r′ : Rec} → SameHead r r′ → headed π b r ≡ headed π b r′
   unfolding headed
   headed-same b h = ap₂ (λ (x y : ℕ). every (inside π b ∷ eqb x (pda (π .drive) b) ∷ eqb y 65535 ∷ [])) (same-serial h) (h .rel)
+
+  pub cand-same : (v v′ : View) (b : ℕ) → SameHead (v b) (v′ b) → candidate π v b ≡ candidate π v′ b
+  cand-same v v′ b h = headed-is v b ∙ headed-same b h ∙ sym (headed-is v′ b)
 
   -- another relative number, or no serial
   pub headed-rel : (b : ℕ) (r : Rec) → r 2 ≢ 65535 → headed π b r ≡ false
@@ -69,11 +73,6 @@ pub tally-not : (w : ℕ) → w ≢ 257 → w < 261 → tallyWord w ≡ false
 unfolding tallyWord
 tally-not w n l = refl
 
-pub both-no : (a b : Bool) → b ≡ false → both a b ≡ false
-unfolding both
-both-no true b q = q
-both-no false b q = refl
-
 module _ (π : Partition) (v : View) where
   -- word w of b is one of these, or an entry of a pointer block that L does not ask for
   unfoldable pub spare : ℕ → ℕ → Bool
@@ -92,6 +91,19 @@ module _ (π : Partition) (v : View) where
 
   pub soft-refl : (b : ℕ) {r : Rec} → r ≡ v b → Soft b r
   soft-refl b q = record { head = head-of (sym q); words = λ w _ _. sym (ap (λ (r : Rec). r w) q) }
+
+  -- a record that keeps all but filler and links
+  pub soft-links : (b : ℕ) {r : Rec} (r₀ : Rec) → v b ≡ r₀ → ((w : ℕ) → w ≢ 3 → w ≢ 4 → w ≢ 5 → w ≢ 6 → w ≢ 7 → r w ≡ r₀ w) → Soft b r
+  soft-links b {r} r₀ q h = record {
+    head = record { low = low 0 (omega arith); high = low 1 (omega arith); rel = low 2 (omega arith) };
+    words = λ w l _. same w (λ z. omega arith) (λ z. omega arith) (λ z. omega arith) (λ z. omega arith) (λ z. omega arith);
+  }
+    where
+      same : (w : ℕ) → w ≢ 3 → w ≢ 4 → w ≢ 5 → w ≢ 6 → w ≢ 7 → v b w ≡ r w
+      same w n3 n4 n5 n6 n7 = ap (λ (x : Rec). x w) q ∙ sym (h w n3 n4 n5 n6 n7)
+
+      low : (w : ℕ) → w < 3 → v b w ≡ r w
+      low w l = same w (λ z. omega arith) (λ z. omega arith) (λ z. omega arith) (λ z. omega arith) (λ z. omega arith)
 
   -- ---- the spare words of a file's blocks
   module _ (f : ℕ) (cf : candidate π v f ≡ true) (wf : wellFormed π v f ≡ true) where
@@ -118,7 +130,7 @@ module _ (π : Partition) (v : View) where
         go false q (inr z) = absurd (eqb-false (up k) home q z)
         go false q (inl z) =
             let c = child-slot k x (omega (arith, asked-low k (len v f) z, low-pos (len v f) (wf-of π v f wf .short))) (omega (arith, asked-high k (len v f) z, wf-of π v f wf .short)) n l in
-            both-no _ _ (lt-leb _ _ (subst (λ (j : ℕ). first j < len v f) (sym c) z))
+            both-no-2 _ _ (lt-leb _ _ (subst (λ (j : ℕ). first j < len v f) (sym c) z))
 
     -- what keeps f: its own blocks softly changed
     module _ (v′ : View) (soft-at : (k : ℕ) → present π v f k ≡ true → Soft (spot π v f k) (v′ (spot π v f k))) where
@@ -163,14 +175,11 @@ module _ (π : Partition) (v : View) where
     at-own : (f : ℕ) → candidate π v f ≡ true → (k : ℕ) → present π v f k ≡ true → Soft (spot π v f k) (v′ (spot π v f k))
     at-own f cf k p = soft-own _ (member-owned π v f cf (c f cf) k p)
 
-    same-cand : (f : ℕ) → SameHead (v f) (v′ f) → candidate π v f ≡ candidate π v′ f
-    same-cand f h = headed-is π v f ∙ headed-same π f h ∙ sym (headed-is π v′ f)
-
     soft-cands : (f : ℕ) → candidate π v f ≡ candidate π v′ f
-    soft-cands f = iff-eq _ _ (λ h. sym (same-cand f (soft-fib f h (c f h) v′ (at-own f h) .head)) ∙ h) (λ h. go h (m f (cand-in π v′ f h)))
+    soft-cands f = iff-eq _ _ (λ h. sym (cand-same π v v′ f (soft-fib f h (c f h) v′ (at-own f h) .head)) ∙ h) (λ h. go h (m f (cand-in π v′ f h)))
       where
         go : candidate π v′ f ≡ true → Quiet f (v′ f) → candidate π v f ≡ true
-        go h (inl x) = same-cand f (x .head) ∙ h
+        go h (inl x) = cand-same π v v′ f (x .head) ∙ h
         go h (inr x) = absurd (true≢false (sym h ∙ headed-is π v′ f ∙ x .1))
 
     pub soft-agree : Agree π v v′

@@ -2,14 +2,14 @@
 use mathlib.Core.Path.{_≡_, refl, sym, ap, _∙_, subst}
 use mathlib.Core.Logic.{_≢_}
 use mathlib.Core.List.{List, [], _∷_, _++_}
-use mathlib.Core.Bool.{Bool, true, false, not, _||_, true≢false}
+use mathlib.Core.Bool.{Bool, true, false, not, _||_}
 use Prim.Native.Nat.{ℕ, zero, suc, _+_, _-_, _≤_, _<_}
 use native.Mathlib.Omega.{arith}
 use lib.Dec.{eqb}
 use lib.ListN.{length}
-use borrow.Author.Tests.{ltb-true, eqb-true, eq-eqb, leb-true}
+use borrow.Author.Tests.{ltb-true, eqb-true, eq-eqb}
 use Rattle.base.specs.Tests.{pick, both, all, headOf, lastOf, occ}
-use Rattle.base.specs.Laws.{all-at, every-at, both-left, both-right}
+use Rattle.base.specs.Laws.{every-at, both-left, both-right}
 use Rattle.drive.specs.Address.{pdaBlock, ldaBlock}
 use Rattle.image.specs.View.{View, pair}
 use Rattle.volume.specs.Words.{freeHeadAt, freeTailAt, nextAt, numberFreeAt}
@@ -19,6 +19,8 @@ use Rattle.volume.specs.Frame.{Clean}
 use Rattle.frame.specs.Repair.{lda-block}
 use Rattle.frame.specs.Chain.{occ-in}
 use Rattle.frame.specs.Soft.{cand-in}
+use Rattle.volume.specs.Reads.{inside-of, all-inside}
+use Rattle.volume.specs.Index.{unless-at}
 
 -- x stands in a list behind another, and at its head
 pub occ-more : (x y : ℕ) (l : List ℕ) → occ x l ≤ occ x (y ∷ l)
@@ -74,25 +76,7 @@ module _ (π : Partition) (v : View) where
 
 -- where every block passes its test a candidate is a linked file
 pub tested : (π : Partition) (v : View) → all (π .e - π .s) (fileTest π v) ≡ true → (f : ℕ) → candidate π v f ≡ true → both (wellFormed π v f) (linked π v f) ≡ true
-unfolding inside
-tested π v ok f c = go (candidate π v (suc ((π .s) + (f - suc (π .s))))) refl (all-at ((π .e) - (π .s)) _ ok (f - suc (π .s)) (omega (arith, lo, hi)))
-  where
-    n : inside π f ≡ true
-    n = cand-in π v f c
-
-    lo : (π .s) < f
-    lo = ltb-true (π .s) f (both-left _ _ n)
-
-    hi : f ≤ (π .e)
-    hi = leb-true f (π .e) (both-right _ _ n)
-
-    same : suc ((π .s) + (f - suc (π .s))) ≡ f
-    same = omega (arith, lo)
-
-    go : (t : Bool) → candidate π v (suc ((π .s) + (f - suc (π .s)))) ≡ t
-        → (not t || both (wellFormed π v (suc ((π .s) + (f - suc (π .s))))) (linked π v (suc ((π .s) + (f - suc (π .s)))))) ≡ true → both (wellFormed π v f) (linked π v f) ≡ true
-    go true q r = subst (λ (x : ℕ). both (wellFormed π v x) (linked π v x) ≡ true) same r
-    go false q r = absurd (true≢false (sym c ∙ sym (ap (candidate π v) same) ∙ q))
+tested π v ok f c = unless-at _ _ (all-inside π (λ b. not (candidate π v b) || both (wellFormed π v b) (linked π v b)) ok f (cand-in π v f c)) c
 
 module _ (π : Partition) (v : View) (ok : sound π v ≡ true) where
   formed : (f : ℕ) → candidate π v f ≡ true → both (wellFormed π v f) (linked π v f) ≡ true
@@ -106,18 +90,8 @@ module _ (π : Partition) (v : View) (ok : sound π v ≡ true) where
   sound-linked f c = both-right _ _ (formed f c)
 
   pub sound-once : (b : ℕ) → inside π b ≡ true → occ b (free π v) ≡ pick (owned π v b) 0 1
-  unfolding sound freeSound inside
-  sound-once b n =
-      subst (λ (x : ℕ). occ x (free π v) ≡ pick (owned π v x) 0 1) same (eqb-true _ _ (all-at ((π .e) - (π .s)) _ (every-at _ (both-right _ _ ok) 0) (b - suc (π .s)) (omega (arith, lo, hi))))
-    where
-      lo : (π .s) < b
-      lo = ltb-true (π .s) b (both-left _ _ n)
-
-      hi : b ≤ (π .e)
-      hi = leb-true b (π .e) (both-right _ _ n)
-
-      same : suc ((π .s) + (b - suc (π .s))) ≡ b
-      same = omega (arith, lo)
+  unfolding sound freeSound
+  sound-once b n = eqb-true _ _ (all-inside π (λ x. eqb (occ x (free π v)) (pick (owned π v x) 0 1)) (every-at _ (both-right _ _ ok) 0) b n)
 
   -- a block of the free chain lies in the partition, is not owned, and stands there once
   module _ (b : ℕ) (m : 0 < occ b (free π v)) where
@@ -187,11 +161,10 @@ module _ (π : Partition) (v : View) (ok : sound π v ≡ true) where
 
 -- an unowned block of the partition: there is something to chain
 pub some-free : (π : Partition) (v : View) (b : ℕ) → inside π b ≡ true → owned π v b ≡ false → unowned π v ≢ []
-unfolding unowned inside occ
+unfolding unowned occ
 some-free π v b n o z =
-    let lo = ltb-true (π .s) b (both-left _ _ n) in
-    let hi = leb-true b (π .e) (both-right _ _ n) in
-    let one = occ-in (λ c. not (owned π v c)) b (suc (π .s)) ((π .e) - (π .s)) lo (omega arith) in
+    let i = inside-of π b n in
+    let one = occ-in (λ c. not (owned π v c)) b (suc (π .s)) ((π .e) - (π .s)) (i .0) (omega (arith, i .1)) in
     omega (arith, sym (ap (occ b) z) ∙ one ∙ ap (λ (t : Bool). pick (not t) 1 0) o)
 
 pub spare-block : (π : Partition) (v : View) → sound π v ≡ true → unowned π v ≢ []

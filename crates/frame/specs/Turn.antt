@@ -8,16 +8,17 @@ use native.Mathlib.Omega.{arith}
 use lib.Dec.{eqb}
 use lib.ListN.{take, length}
 use lib.Seq.{take-append-le}
-use borrow.Author.Tests.{ltb-true, eqb-true, eqb-false}
+use borrow.Author.Tests.{eqb-true, eqb-false}
 use Rattle.base.specs.Tests.{pick}
-use Rattle.base.specs.Laws.{both-left, iff-eq}
+use Rattle.base.specs.Laws.{iff-eq, never}
 use Rattle.image.specs.View.{View, Rec, Store, after, upd}
 use Rattle.volume.specs.Keys.{home}
 use Rattle.volume.specs.Files.{inside, candidate, wellFormed, spot, present, fileOf, key, owned}
 use Rattle.volume.specs.declared.Partition.{Partition}
 use Rattle.volume.specs.Index.{spot-home, present-home, own, file-candidate, member-owned, file-back, owned-in}
 use Rattle.volume.specs.Frame.{SameHead, Kept, Clean, Agree, kept-present, kept-spot, kept-wellFormed}
-use Rattle.frame.specs.Soft.{headed, headed-is, headed-same, cand-in, Soft, Quiet, soft-refl, soft-agree, soft-kept}
+use Rattle.frame.specs.Soft.{headed, headed-is, cand-in, Soft, Quiet, soft-refl, soft-agree, soft-kept, cand-same}
+use Rattle.volume.specs.Reads.{off-pib}
 
 -- P holds of each store's block and record
 abbrev pub Each : (ℕ → Rec → Type 0) → List Store → Type 0
@@ -81,8 +82,7 @@ module _ (π : Partition) (v : View) where
   calm-free h k _ = inr (h, k)
 
   pub calm-pib : {r : Rec} → Calm (π .s) r
-  unfolding inside
-  calm-pib i = absurd (omega (arith, ltb-true (π .s) (π .s) (both-left _ _ i)))
+  calm-pib i = absurd (off-pib π (π .s) i refl)
 
   pub calm-agree : Clean π v → (xs : List Store) → Each Calm xs → Agree π v (after xs v)
   calm-agree c xs h = soft-agree π v c (after xs v) (after-each Calm xs v h (λ b. calm-soft (soft-refl π v b refl)))
@@ -124,15 +124,30 @@ module _ (π : Partition) (v : View) (c : Clean π v) where
         fib-head : (g : ℕ) → g ≢ f → candidate π v g ≡ true → SameHead (v g) (v′ g)
         fib-head g n h = subst (λ (b : ℕ). SameHead (v b) (v′ b)) (spot-home π v g) (at g n h home (present-home π v g) .head)
 
-        same : (g : ℕ) → SameHead (v g) (v′ g) → candidate π v g ≡ candidate π v′ g
-        same g h = headed-is π v g ∙ headed-same π g h ∙ sym (headed-is π v′ g)
-
         cands : (g : ℕ) → g ≢ f → candidate π v g ≡ candidate π v′ g
-        cands g n = iff-eq _ _ (λ h. sym (same g (fib-head g n h)) ∙ h) (λ h. go h (m g (cand-in π v′ g h)))
+        cands g n = iff-eq _ _ (λ h. sym (cand-same π v v′ g (fib-head g n h)) ∙ h) (λ h. go h (m g (cand-in π v′ g h)))
           where
             go : candidate π v′ g ≡ true → Soft π v g (v′ g) ⊎ ((owned π v g ≡ true → fileOf π v g ≡ f) × (g ≢ f → headed π g (v′ g) ≡ false)) → candidate π v g ≡ true
-            go h (inl x) = same g (x .head) ∙ h
+            go h (inl x) = cand-same π v v′ g (x .head) ∙ h
             go h (inr x) = absurd (true≢false (sym h ∙ headed-is π v′ g ∙ x .1 n))
+
+    -- the blocks of the other files are owned before exactly if they are afterwards
+    module _ (t : Turn π v v′ f) (b : ℕ) where
+      pub turn-keeps : owned π v b ≡ true → fileOf π v b ≢ f → owned π v′ b ≡ true
+      turn-keeps h n =
+          let o = own π v b h in
+          let k = file-candidate π v _ (o .file) in
+          let s = t .others _ n k .shape in
+          subst (λ (x : ℕ). owned π v′ x ≡ true) (sym (kept-spot π v v′ _ s _ (o .here)) ∙ o .back)
+          (member-owned π v′ _ (sym (t .cands _ n) ∙ k) (sym (kept-wellFormed π v v′ _ s) ∙ c _ k) (key v b) (sym (kept-present π v v′ _ s _) ∙ o .here))
+
+      pub turn-back : owned π v′ b ≡ true → fileOf π v′ b ≢ f → owned π v b ≡ true
+      turn-back h n =
+          let o = own π v′ b h in
+          let k = t .cands _ n ∙ file-candidate π v′ _ (o .file) in
+          let s = t .others _ n k .shape in
+          let l = kept-present π v v′ _ s (key v′ b) ∙ o .here in
+          subst (λ (x : ℕ). owned π v x ≡ true) (kept-spot π v v′ _ s (key v′ b) l ∙ o .back) (member-owned π v _ k (c _ k) (key v′ b) l)
 
     module _ (t : Turn π v v′ f) (w : candidate π v′ f ≡ true → wellFormed π v′ f ≡ true) where
       pub turn-clean : Clean π v′
@@ -147,7 +162,7 @@ module _ (π : Partition) (v : View) (c : Clean π v) where
 
       -- an unowned block that f does not take stays unowned
       pub turn-free : (b : ℕ) → owned π v b ≡ false → (candidate π v′ f ≡ true → (k : ℕ) → present π v′ f k ≡ true → spot π v′ f k ≢ b) → owned π v′ b ≡ false
-      turn-free b o m = go (owned π v′ b) refl
+      turn-free b o m = never _ (λ p. no p _ refl)
         where
           no : owned π v′ b ≡ true → (x : Bool) → eqb (fileOf π v′ b) f ≡ x → ⊥
           no p true q =
@@ -155,17 +170,7 @@ module _ (π : Partition) (v : View) (c : Clean π v) where
               let z = eqb-true (fileOf π v′ b) f q in
               m (subst (λ (y : ℕ). candidate π v′ y ≡ true) z (file-candidate π v′ _ (w .file))) (key v′ b)
               (subst (λ (y : ℕ). present π v′ y (key v′ b) ≡ true) z (w .here)) (ap (λ (y : ℕ). spot π v′ y (key v′ b)) (sym z) ∙ w .back)
-          no p false q =
-              let u = own π v′ b p in
-              let n = eqb-false (fileOf π v′ b) f q in
-              let h = t .cands _ n ∙ file-candidate π v′ _ (u .file) in
-              let s = t .others _ n h .shape in
-              let l = kept-present π v v′ _ s (key v′ b) ∙ u .here in
-              true≢false (sym (subst (λ (y : ℕ). owned π v y ≡ true) (kept-spot π v v′ _ s (key v′ b) l ∙ u .back) (member-owned π v _ h (c _ h) (key v′ b) l)) ∙ o)
-
-          go : (x : Bool) → owned π v′ b ≡ x → x ≡ false
-          go true p = absurd (no p _ refl)
-          go false p = refl
+          no p false q = true≢false (sym (turn-back t b p (eqb-false (fileOf π v′ b) f q)) ∙ o)
 
 -- a deciding store behind quiet ones
 pub turn-decided : (π : Partition) (v : View) (c : Clean π v) (f : ℕ) (xs : List Store) (b : ℕ) (r : Rec)

@@ -7,7 +7,7 @@ use native.Mathlib.Omega.{arith}
 use lib.Dec.{ltb, eqb}
 use borrow.Author.Tests.{ltb-true, ltb-false, eqb-true, eqb-false}
 use Rattle.base.specs.Tests.{pick}
-use Rattle.base.specs.Laws.{both-left}
+use Rattle.base.specs.Laws.{never}
 use Rattle.image.specs.View.{View}
 use Rattle.volume.specs.Keys.{home, reach, first, low}
 use Rattle.volume.specs.KeyLaws.{asked-low, asked-high, low-home, first-data, first-pointer, first-doubles}
@@ -17,7 +17,8 @@ use Rattle.volume.specs.Index.{here-of, spot-home, present-home, wf-of, member,
 use Rattle.volume.specs.Plans.{freeAt}
 use Rattle.volume.specs.Writes.{over, needs, isNew, fresh, present′, spot′}
 use Rattle.growth.specs.Ready.{Behind, Ready}
-use Rattle.growth.specs.Path.{never, or-left, or-right, or-split, over-zero, over-data, placed, needs-some, needs-two, new-at, new-gone, new-first, fresh-at, fresh-in, fresh-free, fresh-one}
+use Rattle.growth.specs.Path.{or-left, or-right, or-split, over-zero, over-data, placed, needs-some, needs-two, new-at, new-gone, new-first, fresh-at, fresh-in, fresh-free, fresh-one}
+use Rattle.volume.specs.Reads.{off-pib}
 
 module _ (π : Partition) (v : View) (f r : ℕ) where
   -- ---- what is present, and where
@@ -125,16 +126,13 @@ module _ (π : Partition) (v : View) (f r : ℕ) where
   -- ---- each key has its own block
 
   module _ (ok : Ready π v f r) where
-    pub old-owned : (k : ℕ) → present π v f k ≡ true → owned π v (spot π v f k) ≡ true
-    old-owned k p = member-owned π v f (ok .cand) (ok .file .formed) k p
-
     pub spot-one : (j k : ℕ) → present′ π v f r j ≡ true → present′ π v f r k ≡ true → spot′ π v f r j ≡ spot′ π v f r k → j ≡ k
     spot-one j k a b q = go (present-split j a) (present-split k b)
       where
         go : (isNew π v f r j ≡ true) ⊎ (present π v f j ≡ true) → (isNew π v f r k ≡ true) ⊎ (present π v f k ≡ true) → j ≡ k
         go (inl x) (inl y) = fresh-one π v f r ok j k x y (sym (spot-new j x) ∙ q ∙ spot-new k y)
-        go (inl x) (inr y) = absurd (true≢false (sym (old-owned k y) ∙ ap (owned π v) (sym (spot-is (ok .file) k y) ∙ sym q ∙ spot-new j x) ∙ fresh-free π v f r ok j x))
-        go (inr x) (inl y) = absurd (true≢false (sym (old-owned j x) ∙ ap (owned π v) (sym (spot-is (ok .file) j x) ∙ q ∙ spot-new k y) ∙ fresh-free π v f r ok k y))
+        go (inl x) (inr y) = absurd (true≢false (sym (member-owned π v f (ok .cand) (ok .file .formed) k y) ∙ ap (owned π v) (sym (spot-is (ok .file) k y) ∙ sym q ∙ spot-new j x) ∙ fresh-free π v f r ok j x))
+        go (inr x) (inl y) = absurd (true≢false (sym (member-owned π v f (ok .cand) (ok .file .formed) j x) ∙ ap (owned π v) (sym (spot-is (ok .file) j x) ∙ q ∙ spot-new k y) ∙ fresh-free π v f r ok k y))
         go (inr x) (inr y) = sym (key-back π v f (ok .cand) (ok .file .formed) j x) ∙ ap (key v) (sym (spot-is (ok .file) j x) ∙ q ∙ spot-is (ok .file) k y) ∙ key-back π v f (ok .cand) (ok .file .formed) k y
 
     pub spot-in : (k : ℕ) → present′ π v f r k ≡ true → inside π (spot′ π v f r k) ≡ true
@@ -152,8 +150,7 @@ module _ (π : Partition) (v : View) (f r : ℕ) where
         go (inl q) =
             let x = placed π v f r (ok .file) k q in
             ok .apart (x .i) (needs π v f r) (x .less) (omega arith) (sym (spot-at (ok .file) (x .i) (x .less)) ∙ ap (spot′ π v f r) (sym (x .is)) ∙ sym z)
-        go (inr q) = true≢false (sym (old-owned k q) ∙ ap (owned π v) (sym (spot-is (ok .file) k q) ∙ sym z) ∙ ok .room (needs π v f r) (omega arith) .1)
+        go (inr q) = true≢false (sym (member-owned π v f (ok .cand) (ok .file .formed) k q) ∙ ap (owned π v) (sym (spot-is (ok .file) k q) ∙ sym z) ∙ ok .room (needs π v f r) (omega arith) .1)
 
     pub apart-pib : (k : ℕ) → present′ π v f r k ≡ true → π .s ≢ spot′ π v f r k
-    unfolding inside
-    apart-pib k p z = omega (arith, ltb-true (π .s) (spot′ π v f r k) (both-left _ _ (spot-in k p)))
+    apart-pib k p z = off-pib π (spot′ π v f r k) (spot-in k p) (sym z)

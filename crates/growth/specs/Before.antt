@@ -23,6 +23,7 @@ use Rattle.growth.specs.Path.{Placed, over-up, placed, new-absent, new-b
 use Rattle.growth.specs.Lists.{All, mem}
 use Rattle.growth.specs.Afterwards.{present-new, present-old, present-split, spot-new, new-old, spot-is}
 use Rattle.growth.specs.Grown.{grown-off, grown-head, base-old, body-inner, entered-off, new-number}
+use Rattle.volume.specs.Frame.{SameHead}
 
 module _ (π : Partition) (v : View) (f r : ℕ) (dat : Rec) (ok : Ready π v f r) where
   -- the one old block that names a new one
@@ -33,19 +34,23 @@ module _ (π : Partition) (v : View) (f r : ℕ) (dat : Rec) (ok : Ready π v f 
       go true q = absurd (true≢false (sym p ∙ new-absent π v f r (ok .file) (suc i) (ltb-true _ _ q)))
       go false q = omega (arith, ltb-false (suc i) (needs π v f r) q)
 
+  -- an old block keeps its header
+  base-is : (k : ℕ) → present π v f k ≡ true → (w : ℕ) → base π v f r dat k w ≡ v (spot π v f k) w
+  base-is k p w = ap (λ (x : Rec). x w) (base-old π v f r dat k (new-old π v f r (ok .file) k p))
+
+  pub head-old : (k : ℕ) → present π v f k ≡ true → SameHead (v (spot π v f k)) (grown π v f r dat k)
+  head-old k p = record { low = low 0 (omega arith); high = low 1 (omega arith); rel = low 2 (omega arith) }
+    where
+      low : (w : ℕ) → w < 4 → v (spot π v f k) w ≡ grown π v f r dat k w
+      low w l = sym (grown-head π v f r dat (ok .file) k w l ∙ base-is k p w)
+
   soft-old : (k : ℕ) → present π v f k ≡ true → k ≢ home → Soft π v (spot π v f k) (grown π v f r dat k)
   soft-old k p n = record {
-    head = record { low = low 0 (omega arith); high = low 1 (omega arith); rel = low 2 (omega arith) };
+    head = head-old k p;
     words = λ w l s. sym (grown-off π v f r dat k w (λ z. omega arith) (λ z. omega arith) (λ z. omega arith) (λ z. omega arith)
-        ∙ ap (λ (x : Rec). x w) (body-inner π v f r dat k n) ∙ entered-off π v f r dat k w _ (λ i m h. off w s i h) ∙ old w);
+        ∙ ap (λ (x : Rec). x w) (body-inner π v f r dat k n) ∙ entered-off π v f r dat k w _ (λ i m h. off w s i h) ∙ base-is k p w);
   }
     where
-      old : (w : ℕ) → base π v f r dat k w ≡ v (spot π v f k) w
-      old w = ap (λ (x : Rec). x w) (base-old π v f r dat k (new-old π v f r (ok .file) k p))
-
-      low : (w : ℕ) → w < 4 → v (spot π v f k) w ≡ grown π v f r dat k w
-      low w l = sym (grown-head π v f r dat (ok .file) k w l ∙ old w)
-
       off : (w : ℕ) → spare π v (spot π v f k) w ≡ false → (i : ℕ) → holds π v f r dat i k ≡ true → (w ≢ slot (over r i)) × (w ≢ slot (over r i) + 1)
       off w s i h = ((λ z. no 0 (omega arith) (omega arith)), no 1 (omega arith))
         where

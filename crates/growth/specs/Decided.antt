@@ -6,12 +6,12 @@ use mathlib.Core.Bool.{Bool, true, false, true≢false}
 use Prim.Native.Nat.{ℕ, _%_}
 use native.Mathlib.Omega.{arith}
 use lib.Dec.{eqb}
-use borrow.Author.Tests.{ltb-true, eqb-true, eqb-false}
+use borrow.Author.Tests.{eqb-true, eqb-false}
 use Rattle.base.specs.Tests.{pick}
-use Rattle.base.specs.Laws.{both-left}
+use Rattle.base.specs.Laws.{never}
 use Rattle.image.specs.View.{View, Rec, Store, after, upd, upd-same, upd-other, put, put2}
 use Rattle.volume.specs.Keys.{home}
-use Rattle.volume.specs.Files.{inside, wellFormed, present, unowned, above, below}
+use Rattle.volume.specs.Files.{wellFormed, present, unowned, above, below}
 use Rattle.volume.specs.declared.Partition.{Partition}
 use Rattle.volume.specs.Frame.{Clean}
 use Rattle.volume.specs.Plans.{Plan, stores, freeAt, newFirst, pibLess, takenStores}
@@ -22,12 +22,13 @@ use Rattle.frame.specs.Reading.{put-off, put2-off}
 use Rattle.frame.specs.Sound.{some-free}
 use Rattle.frame.specs.Decides.{Good}
 use Rattle.growth.specs.Ready.{Tails, Ready}
-use Rattle.growth.specs.Path.{never, held}
+use Rattle.growth.specs.Path.{held}
 use Rattle.growth.specs.Lists.{All, mem, all-map, all-append, mem-left, mem-right, mem-here, keyed}
 use Rattle.growth.specs.Afterwards.{present-new, present-old, present-split, home-there, spot-fib, spot-one, apart-first, apart-pib}
 use Rattle.growth.specs.Written.{Written, written-present, written-spot, written-formed}
 use Rattle.growth.specs.Before.{Early, early-present, calm-keys, mine-key, Order}
 use Rattle.growth.specs.Done.{Left, Done, done-written}
+use Rattle.volume.specs.Reads.{off-pib}
 
 module _ (π : Partition) (v : View) (f r : ℕ) (dat : Rec) (ok : Ready π v f r) (fr : List ℕ) (o : Order π v f r dat ok fr) where
   -- the keys whose blocks are stored, the FIB's last
@@ -211,8 +212,8 @@ module _ (π : Partition) (v : View) (f r : ℕ) (dat : Rec) (ok : Ready π v f 
   pib-rec = ap (λ (u : View). u (π .s)) whole-last ∙ upd-same (upd decided g (newFirst (π .drive) v g)) (π .s) _
 
   pub first-rec : whole g ≡ newFirst (π .drive) v g
-  unfolding takenStores after inside
+  unfolding takenStores after
   first-rec =
       ap (λ (u : View). u g) whole-last
-      ∙ upd-other (upd decided g (newFirst (π .drive) v g)) (π .s) _ g (λ z. omega (arith, z, ltb-true (π .s) g (both-left _ _ (ok .room (needs π v f r) (omega arith) .0))))
+      ∙ upd-other (upd decided g (newFirst (π .drive) v g)) (π .s) _ g (off-pib π g (ok .room (needs π v f r) (omega arith) .0))
       ∙ upd-same decided g (newFirst (π .drive) v g)

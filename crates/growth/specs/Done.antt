@@ -18,8 +18,8 @@ use Rattle.growth.specs.Ready.{Ready}
 use Rattle.growth.specs.Path.{placed, new-at, over-up, needs-some}
 use Rattle.growth.specs.Afterwards.{present-old, present-not, spot-new, spot-old, new-old, spot-is}
 use Rattle.growth.specs.Written.{Written}
-use Rattle.growth.specs.Grown.{grown-head, grown-entry, grown-data, base-old, base-entry, new-serial, new-number, new-data, fib-length, fib-last, fib-size, fib-low, fib-address, fib-kept}
-use Rattle.growth.specs.Before.{gains-is}
+use Rattle.growth.specs.Grown.{grown-entry, grown-data, base-entry, new-serial, new-number, new-data, fib-length, fib-last, fib-size, fib-low, fib-address, fib-kept}
+use Rattle.growth.specs.Before.{gains-is, head-old}
 
 module _ (π : Partition) (v : View) (f r : ℕ) (dat : Rec) (ok : Ready π v f r) where
   -- the block of key k is as it was, an old one that keeps its neighbours
@@ -41,11 +41,8 @@ module _ (π : Partition) (v : View) (f r : ℕ) (dat : Rec) (ok : Ready π v f 
     old : (k : ℕ) → present π v f k ≡ true → SameHead (v (spot π v f k)) (W (spot π v f k))
     old k p = subst (λ (b : ℕ). SameHead (v (spot π v f k)) (W b)) (spot-is π v f r (ok .file) k p) (go (d .each k (present-old π v f r k p)))
       where
-        low : (w : ℕ) → w < 4 → v (spot π v f k) w ≡ grown π v f r dat k w
-        low w l = sym (grown-head π v f r dat (ok .file) k w l ∙ ap (λ (x : Rec). x w) (base-old π v f r dat k (new-old π v f r (ok .file) k p)))
-
         go : (W (spot′ π v f r k) ≡ grown π v f r dat k) ⊎ Left W k → SameHead (v (spot π v f k)) (W (spot′ π v f r k))
-        go (inl q) = head-trans (record { low = low 0 (omega arith); high = low 1 (omega arith); rel = low 2 (omega arith) }) (head-of (sym q))
+        go (inl q) = head-trans (head-old π v f r dat ok k p) (head-of (sym q))
         go (inr q) = head-of (ap v (sym (spot-is π v f r (ok .file) k p)) ∙ sym (q .same))
 
     fresh-rec : (k : ℕ) → isNew π v f r k ≡ true → W (fresh π v f r k) ≡ grown π v f r dat k

@@ -14,8 +14,8 @@ use Rattle.volume.specs.Keys.{home}
 use Rattle.volume.specs.KeyLaws.{up-most}
 use Rattle.volume.specs.Files.{end, present, above, below, least}
 use Rattle.volume.specs.declared.Partition.{Partition}
-use Rattle.volume.specs.Index.{present-home, wf-of}
-use Rattle.volume.specs.Order.{least-is, least-present}
+use Rattle.volume.specs.Index.{wf-of}
+use Rattle.volume.specs.Order.{least-present, least-most}
 use Rattle.volume.specs.Writes.{over, inner, needs, isNew, above′, below′, early}
 use Rattle.growth.specs.Ready.{Ready}
 use Rattle.growth.specs.Path.{over-zero, over-up, over-two, needs-some, needs-few, held, new-at, new-absent, new-inner}
@@ -101,12 +101,8 @@ module _ (π : Partition) (v : View) (f r : ℕ) where
     pub over-low : over r 1 ≤ home
     over-low = subst (λ (x : ℕ). x ≤ home) (over-up r 0) (up-most (over r 0))
 
-    pub least-low : least π v f ≤ home
-    least-low = go (ltb home (least π v f)) refl
-      where
-        go : (t : Bool) → ltb home (least π v f) ≡ t → least π v f ≤ home
-        go true q = absurd (true≢false (sym (present-home π v f) ∙ least-is π v f (ok .file .formed) .none home (omega arith) (λ _. ltb-true _ _ q)))
-        go false q = ltb-false home (least π v f) q
+    least-low : least π v f ≤ home
+    least-low = least-most π v f (wf-of π v f (ok .file .formed) .short)
 
     pub early-once : Distinct (early π v f r)
     unfolding early

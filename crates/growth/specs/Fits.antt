@@ -7,7 +7,7 @@ use native.Mathlib.Omega.{arith}
 use lib.Dec.{eqb}
 use borrow.Author.Tests.{eqb-false, leb-true}
 use Rattle.base.specs.Tests.{pick}
-use Rattle.base.specs.Laws.{both-left, both-right}
+use Rattle.base.specs.Laws.{both-left}
 use Rattle.base.specs.Sums.{count-both}
 use Rattle.drive.specs.Address.{pda, lda}
 use Rattle.drive.specs.Fits.{pda-small, lda-small}
@@ -15,7 +15,7 @@ use Rattle.image.specs.View.{View, Rec}
 use Rattle.image.specs.Saves.{withData}
 use Rattle.image.specs.Stores.{Fits}
 use Rattle.volume.specs.Keys.{home, number, slot, low, span}
-use Rattle.volume.specs.KeyLaws.{slot-high, span-end}
+use Rattle.volume.specs.KeyLaws.{slot-high, span-end, number-small}
 use Rattle.volume.specs.Files.{isLda, address, inside, spot}
 use Rattle.volume.specs.declared.Partition.{Partition}
 use Rattle.volume.specs.Plans.{freeAt}
@@ -25,10 +25,7 @@ use Rattle.frame.specs.Fitting.{put-fits, put2-fits, blank-fits, Words, data-fi
 use Rattle.growth.specs.Ready.{Ready}
 use Rattle.growth.specs.Afterwards.{len-short, spot-in}
 use Rattle.growth.specs.Neighbours.{above′-is, below′-is, least′-there}
-
-number-small : (k : ℕ) → number k < 65536
-unfolding number
-number-small k = omega arith
+use Rattle.volume.specs.Reads.{inside-of}
 
 -- an entry, where it is put
 if-fits : (t : Bool) (i x : ℕ) {r : Rec} → i < 263 → (t ≡ true → x < 4294967296) → Fits r → Fits (put2If t i x r)
@@ -38,8 +35,7 @@ if-fits false i x l h r = r
 
 module _ (π : Partition) (v : View) (f r : ℕ) (dat : Rec) (ok : Ready π v f r) (few : π .e < 69552) where
   inside-few : (b : ℕ) → inside π b ≡ true → b < 69552
-  unfolding inside
-  inside-few b i = omega (arith, leb-true b (π .e) (both-right _ _ i))
+  inside-few b i = omega (arith, inside-of π b i .1)
 
   free-few : (i : ℕ) → i ≤ needs π v f r → freeAt π v i < 69552
   free-few i l = inside-few (freeAt π v i) (ok .room i l .0)

@@ -7,7 +7,7 @@ use native.Mathlib.Omega.{arith}
 use lib.Dec.{eqb}
 use borrow.Author.Tests.{eqb-false}
 use Rattle.base.specs.Tests.{pick}
-use Rattle.base.specs.Laws.{pick-same}
+use Rattle.base.specs.Laws.{pick-same, never}
 use Rattle.drive.specs.Address.{pda, lda}
 use Rattle.image.specs.View.{View, Rec, pair}
 use Rattle.volume.specs.Words.{nextAt, previousAt, slotAt}
@@ -15,13 +15,13 @@ use Rattle.volume.specs.Keys.{home, up, child, first}
 use Rattle.volume.specs.KeyLaws.{child-of, child-word, low-pos, up-home}
 use Rattle.volume.specs.Files.{len, spot, present, entry, wellFormed, above, below, link}
 use Rattle.volume.specs.declared.Partition.{Partition}
-use Rattle.volume.specs.Index.{present-low, present-high, wf-of}
-use Rattle.volume.specs.Order.{above-is, below-is}
+use Rattle.volume.specs.Index.{present-low, wf-of}
+use Rattle.volume.specs.Order.{above-next, below-prev}
 use Rattle.volume.specs.Writes.{isNew, fresh, present′, spot′, above′, below′, link′, grown}
 use Rattle.frame.specs.Reading.{two}
 use Rattle.frame.specs.FreeChain.{Links}
 use Rattle.growth.specs.Ready.{Tails, Ready}
-use Rattle.growth.specs.Path.{never, new-first}
+use Rattle.growth.specs.Path.{new-first}
 use Rattle.growth.specs.Afterwards.{present-not, len-more, spot-is}
 use Rattle.growth.specs.Written.{Written, written-present, written-spot, written-above, written-below, written-formed}
 use Rattle.growth.specs.Grown.{grown-next, grown-prev}
@@ -49,25 +49,25 @@ module _ (π : Partition) (v : View) (f r : ℕ) (dat : Rec) (ok : Ready π v f 
     next-is : (k : ℕ) → present π W f k ≡ true → pair W (spot π W f k) nextAt ≡ link π W f (above π W f k)
     next-is k p =
         ap (λ (b : ℕ). pair W b nextAt) (written-spot π v f r ok tails W w k (there k p)) ∙ go (d .each k (there k p)) ∙ ap (link′ π v f r) (sym (written-above π v f r ok tails W w k))
-        ∙ sym (link-same (above π W f k) (λ n. above-is π W f wf k (present-high π W f k p) .hit n .0))
+        ∙ sym (link-same (above π W f k) (λ n. above-next π W f k .hit n .0))
       where
         go : (W (spot′ π v f r k) ≡ grown π v f r dat k) ⊎ Left π v f r dat ok W k → pair W (spot′ π v f r k) nextAt ≡ link′ π v f r (above′ π v f r k)
         go (inl a) = ap (λ (x : Rec). two x nextAt) a ∙ grown-next π v f r dat k
         go (inr a) =
             ap (λ (x : Rec). two x nextAt) (a .same) ∙ ap (λ (b : ℕ). pair v b nextAt) (spot-is π v f r (ok .file) k (a .old)) ∙ old .next k (a .old)
-            ∙ link-old (above π v f k) (λ n. above-is π v f (ok .file .formed) k (present-high π v f k (a .old)) .hit n .0)
+            ∙ link-old (above π v f k) (λ n. above-next π v f k .hit n .0)
             ∙ ap (link′ π v f r) (sym (a .over-it))
 
     prev-is : (k : ℕ) → present π W f k ≡ true → pair W (spot π W f k) previousAt ≡ link π W f (below π W f k)
     prev-is k p =
         ap (λ (b : ℕ). pair W b previousAt) (written-spot π v f r ok tails W w k (there k p)) ∙ go (d .each k (there k p)) ∙ ap (link′ π v f r) (sym (written-below π v f r ok tails W w k))
-        ∙ sym (link-same (below π W f k) (λ n. below-is π W f wf k (present-low π W f k p) .hit n .0))
+        ∙ sym (link-same (below π W f k) (λ n. below-prev π W f k .hit n .0))
       where
         go : (W (spot′ π v f r k) ≡ grown π v f r dat k) ⊎ Left π v f r dat ok W k → pair W (spot′ π v f r k) previousAt ≡ link′ π v f r (below′ π v f r k)
         go (inl a) = ap (λ (x : Rec). two x previousAt) a ∙ grown-prev π v f r dat k
         go (inr a) =
             ap (λ (x : Rec). two x previousAt) (a .same) ∙ ap (λ (b : ℕ). pair v b previousAt) (spot-is π v f r (ok .file) k (a .old)) ∙ old .prev k (a .old)
-            ∙ link-old (below π v f k) (λ n. below-is π v f (ok .file .formed) k (present-low π v f k (a .old)) .hit n .0)
+            ∙ link-old (below π v f k) (λ n. below-prev π v f k .hit n .0)
             ∙ ap (link′ π v f r) (sym (a .under-it))
 
     tail-is : (k i : ℕ) → k < home → present π W f k ≡ true → i < 128 → len W f ≤ first (child k (slotAt i)) → pair W (spot π W f k) (slotAt i) ≡ 0

@@ -2,41 +2,20 @@
 use mathlib.Core.Path.{_≡_, sym, ap, _∙_}
 use mathlib.Core.Logic.{_⊎_, inl, inr, ⊎-elim, _≢_}
 use mathlib.Core.Bool.{Bool, true, false, true≢false}
-use Prim.Native.Nat.{ℕ, zero, suc, _+_, _-_, _≤_, _<_}
+use Prim.Native.Nat.{ℕ, zero, suc, _+_, _-_, _<_}
 use native.Mathlib.Omega.{arith}
 use Rattle.image.specs.View.{View}
-use Rattle.volume.specs.Search.{seek, down, Least, Greatest, seek-least, down-greatest}
 use Rattle.volume.specs.Keys.{home, low, span}
 use Rattle.volume.specs.KeyLaws.{low-pos, span-end}
 use Rattle.volume.specs.Files.{len, present, above, below, least}
 use Rattle.volume.specs.declared.Partition.{Partition}
-use Rattle.volume.specs.Index.{present-low, present-high, wf-of}
-use Rattle.volume.specs.Order.{Next, Prev, next-one, prev-one, above-is, below-is, least-is, least-present}
+use Rattle.volume.specs.Index.{present-high, wf-of}
+use Rattle.volume.specs.Order.{Next, Prev, next-one, prev-one, least-is, least-present, seek-next, down-prev, seek-first, above-next, below-prev}
 use Rattle.volume.specs.Writes.{over, needs, isNew, present′, above′, below′, least′}
 use Rattle.growth.specs.Ready.{Behind}
-use Rattle.growth.specs.Path.{never, over-zero, over-least, placed, needs-few, new-absent}
+use Rattle.growth.specs.Path.{over-zero, over-least, placed, needs-few, new-absent}
 use Rattle.growth.specs.Afterwards.{present-old, present-not, len-short, range′, home-there}
-
--- ---- a search over all numbers that may pass
-
-module _ (P : ℕ → Bool) (a e : ℕ) (pos : 0 < a) (inn : (i : ℕ) → P i ≡ true → (a ≤ i) × (i ≤ e)) where
-  pub seek-next : (k n : ℕ) → e < suc k + n → Next P k (seek n (suc k) P)
-  seek-next k n l = record { hit = λ m. (s .hit m .0, s .hit m .1 .0); none = λ i b m. never _ (λ p. true≢false (sym p ∙ s .none i b (omega (arith, inn i p .1)) m)) }
-    where
-      s : Least P (suc k) (suc k + n) (seek n (suc k) P)
-      s = seek-least n (suc k) P (omega arith)
-
-  pub seek-first : (n : ℕ) → e < a + n → Next P 0 (seek n a P)
-  seek-first n l = record { hit = λ m. (s .hit m .0, omega (arith, s .hit m .1 .0)); none = λ i b m. never _ (λ p. true≢false (sym p ∙ s .none i (inn i p .0) (omega (arith, inn i p .1)) m)) }
-    where
-      s : Least P a (a + n) (seek n a P)
-      s = seek-least n a P pos
-
-  pub down-prev : (k : ℕ) → Prev P k (down a (k - a) P)
-  down-prev k = record { hit = λ m. (s .hit m .0, omega (arith, s .hit m .1)); none = λ i b l m. never _ (λ p. true≢false (sym p ∙ s .none i (inn i p .0) (omega (arith, inn i p .0)) m)) }
-    where
-      s : Greatest P a (a + (k - a)) (down a (k - a) P)
-      s = down-greatest a (k - a) P pos
+use Rattle.base.specs.Laws.{never}
 
 module _ (π : Partition) (v : View) (f r : ℕ) (ok : Behind π v f r) where
   abbrev P : ℕ → Bool
@@ -48,11 +27,11 @@ module _ (π : Partition) (v : View) (f r : ℕ) (ok : Behind π v f r) where
   -- what above, below and least find afterwards
   pub above′-is : (k : ℕ) → Next (present′ π v f r) k (above′ π v f r k)
   unfolding above′
-  above′-is k = seek-next P (low (suc r)) (home + suc r) pos′ (range′ π v f r ok) k (home + suc r - k) (omega arith)
+  above′-is k = seek-next P (home + suc r) (λ i p. range′ π v f r ok i p .1) k (home + suc r - k) (omega arith)
 
   pub below′-is : (k : ℕ) → Prev (present′ π v f r) k (below′ π v f r k)
   unfolding below′
-  below′-is k = down-prev P (low (suc r)) (home + suc r) pos′ (range′ π v f r ok) k
+  below′-is k = down-prev P (low (suc r)) (λ i p. range′ π v f r ok i p .0) k
 
   pub least′-is : Next (present′ π v f r) 0 (least′ π v f r)
   unfolding least′
@@ -108,7 +87,7 @@ module _ (π : Partition) (v : View) (f r : ℕ) (ok : Behind π v f r) where
   })
     where
       a : Next (present π v f) k (above π v f k)
-      a = above-is π v f (ok .formed) k (present-high π v f k p)
+      a = above-next π v f k
 
       some : above π v f k ≢ 0
       some z = true≢false (sym end-there ∙ a .none _ (omega (arith, present-high π v f k p)) (λ n. absurd (n z)))
@@ -120,10 +99,10 @@ module _ (π : Partition) (v : View) (f r : ℕ) (ok : Behind π v f r) where
   })
     where
       a : Prev (present π v f) k (below π v f k)
-      a = below-is π v f (ok .formed) k (present-low π v f k p)
+      a = below-prev π v f k
 
       k-pos : 0 < k
       k-pos = omega (arith, pos′, range′ π v f r ok k (present-old π v f r k p) .0)
 
       first-one : (below π v f k ≢ 0 → ⊥) → least π v f ≡ k
-      first-one n = next-one (present π v f) 0 _ k (least-is π v f (ok .formed)) (record { hit = λ _. (p, k-pos); none = λ j b c. a .none j b (c (λ w. omega (arith, k-pos))) (λ x. absurd (n x)) })
+      first-one n = next-one (present π v f) 0 _ k (least-is π v f (wf-of π v f (ok .formed) .short)) (record { hit = λ _. (p, k-pos); none = λ j b c. a .none j b (c (λ w. omega (arith, k-pos))) (λ x. absurd (n x)) })

@@ -7,7 +7,7 @@ use native.Mathlib.Omega.{arith}
 use lib.Dec.{leb, ltb, eqb}
 use borrow.Author.Tests.{ltb-true, ltb-false, eqb-true, eqb-false, lt-ltb, le-ltb, eq-eqb, ne-eqb, le-leb, leb-true}
 use Rattle.base.specs.Tests.{pick, both}
-use Rattle.base.specs.Laws.{both-left, both-right, both-of}
+use Rattle.base.specs.Laws.{both-left, both-right, both-of, never}
 use Rattle.image.specs.View.{View}
 use Rattle.volume.specs.Keys.{home, reach, up, first, low}
 use Rattle.volume.specs.KeyLaws.{up-most, up-pos, up-home, first-up, first-data, row-direct, row-data, row-ptr}
@@ -17,11 +17,6 @@ use Rattle.volume.specs.Index.{present-home, here-of, wf-of}
 use Rattle.volume.specs.Plans.{freeAt}
 use Rattle.volume.specs.Writes.{over, needs, newly, isNew, fresh, present′}
 use Rattle.growth.specs.Ready.{Behind, Ready}
-
--- a test that cannot hold
-pub never : (t : Bool) → (t ≡ true → ⊥) → t ≡ false
-never true h = absurd (h refl)
-never false h = refl
 
 pub or-left : (a b : Bool) → a ≡ true → (a || b) ≡ true
 or-left a b q = ap (λ (t : Bool). t || b) q

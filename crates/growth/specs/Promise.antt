@@ -7,9 +7,8 @@ use mathlib.Core.Bool.{true}
 use Prim.Native.Nat.{ℕ, suc, _-_, _≤_, _<_}
 use native.Mathlib.Omega.{arith}
 use lib.ListN.{length, length-append, length-map}
-use borrow.Author.Tests.{ltb-true}
 use Rattle.base.specs.Tests.{occ}
-use Rattle.base.specs.Laws.{both-left, both-of}
+use Rattle.base.specs.Laws.{both-of}
 use Rattle.image.specs.View.{View, Rec, after, places}
 use Rattle.image.specs.Stores.{Fits}
 use Rattle.volume.specs.Words.{kindAt}
@@ -33,6 +32,7 @@ use Rattle.growth.specs.Decided.{whole, done-whole, plan-is, plan-good, 
 use Rattle.growth.specs.Early.{early-few, early-once, early-order}
 use Rattle.growth.specs.Sounds.{still-candidate, sound-whole}
 use Rattle.growth.specs.Fits.{record-fits}
+use Rattle.volume.specs.Reads.{off-pib}
 
 -- a sound partition, a file, block r behind its last one, and more free blocks than it takes
 pub record Writing (π : Partition) (v : View) (f r : ℕ) : Type 0 where
@@ -164,8 +164,7 @@ module _ (π : Partition) (v : View) (f r : ℕ) (W : Writing π v f r) where
         not-home k (inr h) = h .1
 
     first-apart : freeAt π v (needs π v f r) ≢ π .s
-    unfolding inside
-    first-apart z = omega (arith, z, ltb-true (π .s) (freeAt π v (needs π v f r)) (both-left _ _ first-in))
+    first-apart = off-pib π (freeAt π v (needs π v f r)) first-in
 
     -- each block once
     pub write-once : (b : ℕ) → occ b (places (stores (writePlan π v f r dat))) ≤ 1

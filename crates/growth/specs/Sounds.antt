@@ -7,28 +7,28 @@ use Prim.Native.Nat.{ℕ, _≤_, _<_}
 use native.Mathlib.Omega.{arith}
 use lib.Dec.{eqb}
 use lib.ListN.{length}
-use borrow.Author.Tests.{ltb-true, eqb-true, eqb-false}
-use Rattle.base.specs.Laws.{both-left}
+use borrow.Author.Tests.{eqb-true, eqb-false}
 use Rattle.image.specs.View.{View, Rec}
-use Rattle.volume.specs.Files.{inside, candidate, wellFormed, spot, present, fileOf, key, owned, free, sound}
+use Rattle.volume.specs.Files.{candidate, wellFormed, spot, present, fileOf, key, owned, free, sound}
 use Rattle.volume.specs.declared.Partition.{Partition}
-use Rattle.volume.specs.Index.{spot-home, present-home, own, file-candidate, member-owned, file-back, owned-in}
-use Rattle.volume.specs.Frame.{SameHead, Clean, kept-present, kept-spot}
+use Rattle.volume.specs.Index.{spot-home, present-home, own, member-owned, file-back, owned-not-pib}
+use Rattle.volume.specs.Frame.{SameHead, Clean}
 use Rattle.volume.specs.Plans.{freeAt}
 use Rattle.volume.specs.Writes.{over, needs, isNew, fresh, present′, spot′}
-use Rattle.frame.specs.Soft.{headed-is, headed-same}
-use Rattle.frame.specs.Turn.{Turn, turn-clean}
+use Rattle.frame.specs.Soft.{cand-same}
+use Rattle.frame.specs.Turn.{Turn, turn-clean, turn-keeps, turn-back}
 use Rattle.frame.specs.Sound.{sound-clean, sound-linked}
-use Rattle.frame.specs.FreeChain.{Links, links-of, links-kept, sound-of}
+use Rattle.frame.specs.FreeChain.{Links, links-of, sound-of, links-others}
 use Rattle.frame.specs.Drawn.{Taken, Drawn, left, drawn-free}
 use Rattle.growth.specs.Ready.{Tails, Ready, sound-tails}
 use Rattle.growth.specs.Path.{placed, new-at, fresh-at, fresh-free}
-use Rattle.growth.specs.Afterwards.{present-new, present-old, present-split, spot-new, old-owned, spot-is}
+use Rattle.growth.specs.Afterwards.{present-new, present-old, present-split, spot-new, spot-is}
 use Rattle.growth.specs.Written.{Written, written-present, written-spot, written-formed}
 use Rattle.growth.specs.Before.{Order}
 use Rattle.growth.specs.Done.{Done, done-written}
 use Rattle.growth.specs.Linked.{file-links}
 use Rattle.growth.specs.Decided.{whole, done-whole, turn-whole, other-block, pib-rec, first-rec}
+use Rattle.volume.specs.Reads.{off-pib}
 
 module _ (π : Partition) (v : View) (f r : ℕ) (dat : Rec) (ok : Ready π v f r) (so : sound π v ≡ true) (room : needs π v f r < length (free π v)) (fr : List ℕ) (od : Order π v f r dat ok fr) where
   abbrev W : View
@@ -63,7 +63,7 @@ module _ (π : Partition) (v : View) (f r : ℕ) (dat : Rec) (ok : Ready π v f 
 
   -- the FIB keeps its header
   pub still-candidate : candidate π W f ≡ true
-  still-candidate = sym (headed-is π v f ∙ headed-same π f (subst (λ (b : ℕ). SameHead (v b) (W b)) (spot-home π v f) (w .old _ (present-home π v f))) ∙ sym (headed-is π W f)) ∙ ok .cand
+  still-candidate = sym (cand-same π v W f (subst (λ (b : ℕ). SameHead (v b) (W b)) (spot-home π v f) (w .old _ (present-home π v f)))) ∙ ok .cand
 
   -- ---- what is owned afterwards
 
@@ -78,14 +78,7 @@ module _ (π : Partition) (v : View) (f r : ℕ) (dat : Rec) (ok : Ready π v f 
           let p′ = present-old π v f r (key v b) p in
           subst (λ (x : ℕ). owned π W x ≡ true) (where-is _ p′ ∙ spot-is π v f r (ok .file) _ p ∙ ap (λ (x : ℕ). spot π v x (key v b)) (sym z) ∙ o .back)
           (member-owned π W f still-candidate wf (key v b) (there _ ∙ p′))
-      go false q =
-          let o = own π v b h in
-          let n = eqb-false (fileOf π v b) f q in
-          let cg = file-candidate π v _ (o .file) in
-          let s = turn .others _ n cg .shape in
-          let cw = sym (turn .cands _ n) ∙ cg in
-          subst (λ (x : ℕ). owned π W x ≡ true) (sym (kept-spot π v W _ s _ (o .here)) ∙ o .back)
-          (member-owned π W _ cw (clean _ cw) (key v b) (sym (kept-present π v W _ s _) ∙ o .here))
+      go false q = turn-keeps π v c W f turn b h (eqb-false (fileOf π v b) f q)
 
   owned-new : (k : ℕ) → isNew π v f r k ≡ true → owned π W (fresh π v f r k) ≡ true
   owned-new k h =
@@ -111,26 +104,16 @@ module _ (π : Partition) (v : View) (f r : ℕ) (dat : Rec) (ok : Ready π v f 
           on (inl n) =
               let x = placed π v f r (ok .file) (key W b) n in
               inr (record { i = x .i; less = x .less; is = sym is ∙ spot-new π v f r _ n ∙ ap (fresh π v f r) (x .is) ∙ fresh-at π v f r (ok .file) (x .i) (x .less) })
-          on (inr n) = inl (subst (λ (x : ℕ). owned π v x ≡ true) (sym (spot-is π v f r (ok .file) _ n) ∙ is) (old-owned π v f r ok _ n))
-      go false q =
-          let o = own π W b h in
-          let n = eqb-false (fileOf π W b) f q in
-          let cg = turn .cands _ n ∙ file-candidate π W _ (o .file) in
-          let s = turn .others _ n cg .shape in
-          let p = kept-present π v W _ s (key W b) ∙ o .here in
-          inl (subst (λ (x : ℕ). owned π v x ≡ true) (kept-spot π v W _ s _ p ∙ o .back) (member-owned π v _ cg (c _ cg) (key W b) p))
+          on (inr n) = inl (subst (λ (x : ℕ). owned π v x ≡ true) (sym (spot-is π v f r (ok .file) _ n) ∙ is) (member-owned π v f (ok .cand) (ok .file .formed) _ n))
+      go false q = inl (turn-back π v c W f turn b h (eqb-false (fileOf π W b) f q))
 
   -- ---- the free chain afterwards
-
-  not-pib : (b : ℕ) → inside π b ≡ true → π .s ≢ b
-  unfolding inside
-  not-pib b i z = omega (arith, ltb-true (π .s) b (both-left _ _ i))
 
   drawn : Drawn π v so (needs π v f r) room W
   drawn = record {
     first = first-rec π v f r dat ok fr od;
     pib = pib-rec π v f r dat ok fr od;
-    kept = λ b i o n. other-block π v f r dat ok fr od b (apart b o n) (n (needs π v f r) (omega arith)) (not-pib b i);
+    kept = λ b i o n. other-block π v f r dat ok fr od b (apart b o n) (n (needs π v f r) (omega arith)) (λ z. off-pib π b i (sym z));
     old = owned-old;
     new = λ i l. ap (owned π W) (sym (fresh-at π v f r (ok .file) i l)) ∙ owned-new (over r i) (new-at π v f r (ok .file) i l);
     back = owned-back;
@@ -143,7 +126,7 @@ module _ (π : Partition) (v : View) (f r : ℕ) (dat : Rec) (ok : Ready π v f 
           go (inl h) =
               let x = placed π v f r (ok .file) k h in
               n (x .i) (omega (arith, x .less)) (sym (fresh-at π v f r (ok .file) (x .i) (x .less)) ∙ ap (fresh π v f r) (sym (x .is)) ∙ sym (spot-new π v f r k h) ∙ z)
-          go (inr h) = true≢false (sym (old-owned π v f r ok k h) ∙ ap (owned π v) (sym (spot-is π v f r (ok .file) k h) ∙ z) ∙ o)
+          go (inr h) = true≢false (sym (member-owned π v f (ok .cand) (ok .file .formed) k h) ∙ ap (owned π v) (sym (spot-is π v f r (ok .file) k h) ∙ z) ∙ o)
 
   -- ---- every file
 
@@ -152,29 +135,20 @@ module _ (π : Partition) (v : View) (f r : ℕ) (dat : Rec) (ok : Ready π v f 
     where
       go : (t : Bool) → eqb h f ≡ t → Links π W h
       go true q = subst (Links π W) (sym (eqb-true h f q)) (file-links π v f r dat ok tails W d (links-of π v f (sound-linked π v so f (ok .cand))))
-      go false q = links-kept π v W h (c h cv) (turn .others h ne cv .shape) same (links-of π v h (sound-linked π v so h cv))
+      go false q = links-others π v W f turn so same h (eqb-false h f q) ch
         where
-          ne : h ≢ f
-          ne = eqb-false h f q
-
-          cv : candidate π v h ≡ true
-          cv = turn .cands h ne ∙ ch
-
-          same : (k : ℕ) → present π v h k ≡ true → W (spot π v h k) ≡ v (spot π v h k)
-          same k p = other-block π v f r dat ok fr od (spot π v h k) apart (λ z. free-one (freeAt π v (needs π v f r)) z (ok .room (needs π v f r) (omega arith) .1)) (not-pib _ (owned-in π v _ mine))
+          same : (b : ℕ) → owned π v b ≡ true → fileOf π v b ≢ f → W b ≡ v b
+          same b mine ne = other-block π v f r dat ok fr od b apart (λ z. free-one (freeAt π v (needs π v f r)) z (ok .room (needs π v f r) (omega arith) .1)) (λ z. owned-not-pib π v b mine (sym z))
             where
-              mine : owned π v (spot π v h k) ≡ true
-              mine = member-owned π v h cv (c h cv) k p
+              free-one : (x : ℕ) → x ≡ b → owned π v x ≡ false → ⊥
+              free-one x z y = true≢false (sym mine ∙ ap (owned π v) (sym z) ∙ y)
 
-              free-one : (b : ℕ) → b ≡ spot π v h k → owned π v b ≡ false → ⊥
-              free-one b z x = true≢false (sym mine ∙ ap (owned π v) (sym z) ∙ x)
-
-              apart : (j : ℕ) → present′ π v f r j ≡ true → spot′ π v f r j ≢ spot π v h k
+              apart : (j : ℕ) → present′ π v f r j ≡ true → spot′ π v f r j ≢ b
               apart j a z = on (present-split π v f r j a)
                 where
                   on : (isNew π v f r j ≡ true) ⊎ (present π v f j ≡ true) → ⊥
                   on (inl x) = free-one (fresh π v f r j) (sym (spot-new π v f r j x) ∙ z) (fresh-free π v f r ok j x)
-                  on (inr x) = ne (sym (file-back π v h cv (c h cv) k p) ∙ ap (fileOf π v) (sym z ∙ spot-is π v f r (ok .file) j x) ∙ file-back π v f (ok .cand) (ok .file .formed) j x)
+                  on (inr x) = ne (ap (fileOf π v) (sym z ∙ spot-is π v f r (ok .file) j x) ∙ file-back π v f (ok .cand) (ok .file .formed) j x)
 
   pub sound-whole : π .s < π .e → sound π (whole π v f r dat ok fr od) ≡ true
   sound-whole l = sound-of π W (left π v so (needs π v f r) room) l (drawn-free π v so (needs π v f r) room W drawn) clean links

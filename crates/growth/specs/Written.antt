@@ -8,7 +8,7 @@ use native.Mathlib.Omega.{arith}
 use lib.Dec.{ltb}
 use borrow.Author.Tests.{ltb-true, ltb-false, eq-eqb}
 use Rattle.base.specs.Tests.{pick, every, count}
-use Rattle.base.specs.Laws.{iff-eq, cons-same}
+use Rattle.base.specs.Laws.{iff-eq, cons-same, never}
 use Rattle.drive.specs.Address.{pda, lda, ldaBlock}
 use Rattle.drive.specs.Laws.{lda-back, lda-pos}
 use Rattle.image.specs.View.{View, pair}
@@ -24,7 +24,7 @@ use Rattle.volume.specs.Plans.{freeAt}
 use Rattle.volume.specs.Writes.{over, isNew, fresh, present′, spot′, above′, below′, least′, size′}
 use Rattle.frame.specs.Repair.{lda-self}
 use Rattle.growth.specs.Ready.{Tails, Ready}
-use Rattle.growth.specs.Path.{never, over-zero, new-at, fresh-at, needs-some, new-first, new-up, fresh-in, home-old}
+use Rattle.growth.specs.Path.{over-zero, new-at, fresh-at, needs-some, new-first, new-up, fresh-in, home-old}
 use Rattle.growth.specs.Afterwards.{present-new, present-old, present-split, present-not, spot-new, spot-old, len-more, len-short, asked′, full′, new-old}
 use Rattle.growth.specs.Neighbours.{least′-there}
 

@@ -1,12 +1,12 @@
 -- What the code that reads a file's links has of it: where no candidate is malformed every candidate is a file that can be read; which keys
 -- a file has and which stands behind and before one; who owns a block. Assumes nothing.
-use mathlib.Core.Path.{_≡_, refl, sym, ap, _∙_}
+use mathlib.Core.Path.{_≡_, sym, ap, _∙_}
 use mathlib.Core.Logic.{_⊎_, inl, inr, _≢_}
 use mathlib.Core.List.{List}
-use mathlib.Core.Bool.{Bool, true, false, true≢false}
-use Prim.Native.Nat.{ℕ, zero, suc, _+_, _-_, _≤_, _<_}
+use mathlib.Core.Bool.{Bool, true, false}
+use Prim.Native.Nat.{ℕ, _+_, _≤_, _<_}
 use native.Mathlib.Omega.{arith}
-use lib.Dec.{ltb, eqb}
+use lib.Dec.{eqb}
 use borrow.Author.Tests.{eq-eqb, ne-eqb}
 use Rattle.base.specs.Tests.{both}
 use Rattle.base.specs.Laws.{both-of}
@@ -16,51 +16,24 @@ use Rattle.image.specs.Image.{view}
 use Rattle.volume.specs.Words.{serialAt, relativeAt}
 use Rattle.volume.specs.Keys.{home, keyOf, low}
 use Rattle.volume.specs.KeyLaws.{low-pos}
-use Rattle.volume.specs.Files.{isMalformed, candidate, wellFormed, isFile, len, spot, present, above, below, least, link, fileOf, key, owned}
+use Rattle.volume.specs.Files.{candidate, isFile, len, spot, present, above, below, least, link, fileOf, key, owned}
 use Rattle.volume.specs.declared.Partition.{Partition}
 use Rattle.volume.specs.Index.{present-low, present-high}
 use Rattle.volume.specs.Closed.{hasKey, nextKey, prevKey, has-only, present-closed, above-closed, below-closed, least-closed}
-use Rattle.volume.specs.Answers.{lowest, lowestMalformed, Unmarred}
+use Rattle.volume.specs.Answers.{Unmarred}
 use Rattle.volume.specs.Reads.{Lies, candidate-in}
 use Rattle.volume.specs.Steps.{both-no, both-no-2}
-use Rattle.volume.specs.declared.Found.the-variants.{Nothing}
 use Rattle.inspect.specs.Parts.{Opened}
 use Rattle.inspect.proofs.Laws.{wf-opened, opened-few}
-
--- a search that finds nothing
-pub lowest-none : (p : ℕ → Bool) (n a : ℕ) → lowest p a n ≡ Nothing → (x : ℕ) → a ≤ x → x < a + n → p x ≡ false
-unfolding lowest
-lowest-none p zero a h x l u = absurd (omega arith)
-lowest-none p (suc n) a h x l u = go (λ h′ g. lowest-none p n (a + 1) h′ x g (omega arith)) (p a) refl (eqb a x) refl
-  where
-    go : (lowest p (a + 1) n ≡ Nothing → a + 1 ≤ x → p x ≡ false) → (t : Bool) → p a ≡ t → (m : Bool) → eqb a x ≡ m → p x ≡ false
-    go rec true j m i = let q = rw (j, lowest) at h in let z : _≡_ {A = ℕ} 0 1 = cc in absurd (omega arith)
-    go rec false j true i = rw (← borrow.Author.Tests.eqb-true a x i) j
-    go rec false j false i = let n = borrow.Author.Tests.eqb-false a x i in rec (rw (j, lowest) at h) (let y : a < x = borrow.Author.Tests.ltb-true a x (less (ltb a x) refl n) in omega arith)
-      where
-        less : (t : Bool) → ltb a x ≡ t → (a ≡ x → ⊥) → ltb a x ≡ true
-        less true z n = z
-        less false z n = absurd (n (let w : x ≤ a = borrow.Author.Tests.ltb-false a x z in omega arith))
-
-module _ (π : Partition) (v : View) (none : Unmarred π v) where
-  pub formed : (f : ℕ) → candidate π v f ≡ true → wellFormed π v f ≡ true
-  unfolding lowestMalformed isMalformed both
-  formed f c = go (wellFormed π v f) refl
-    where
-      i : ((π .s) < f) × (f ≤ (π .e))
-      i = candidate-in π v f c
-
-      go : (t : Bool) → wellFormed π v f ≡ t → wellFormed π v f ≡ true
-      go true w = w
-      go false w = absurd (true≢false (sym (rw (c, w, isMalformed)) ∙ lowest-none (isMalformed π v) ((π .e) - (π .s)) ((π .s) + 1) none f (omega (arith, i .0)) (omega (arith, i .0, i .1))))
+use Rattle.volume.specs.Frame.{clean-of}
 
 -- a candidate's index can be read
 pub opened : {π : Partition} {l : List ℕ} → Lies π l → Unmarred π (view l) → (f : ℕ) → candidate π (view l) f ≡ true → Opened π l f
-opened {π} {l} i none f c = wf-opened f i (candidate-in π (view l) f c .1) (formed π (view l) none f c)
+opened {π} {l} i none f c = wf-opened f i (candidate-in π (view l) f c .1) (clean-of π (view l) none f c)
 
 pub is-file : (π : Partition) (v : View) → Unmarred π v → (f : ℕ) → candidate π v f ≡ true → isFile π v f ≡ true
 unfolding isFile
-is-file π v none f c = both-of c (formed π v none f c)
+is-file π v none f c = both-of c (clean-of π v none f c)
 
 -- ---- the keys of an opened file, and with n blocks
 

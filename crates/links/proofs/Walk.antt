@@ -17,12 +17,13 @@ use Rattle.volume.specs.KeyLaws.{low-pos}
 use Rattle.volume.specs.Files.{len, spot, present, above, below, least, link, linkTest, tailTest, linked}
 use Rattle.volume.specs.declared.Partition.{Partition}
 use Rattle.volume.specs.Index.{span-at, span-of, present-low, present-high}
-use Rattle.volume.specs.Order.{Next, prev-one, above-is, below-is, least-is, least-present, above-below}
+use Rattle.volume.specs.Order.{Next, prev-one, least-is, least-present, above-below, above-next, below-prev}
 use Rattle.volume.specs.Closed.{entriesOf, entry-asked}
 use Rattle.volume.specs.Steps.{every-no, Passed, pass-next, pass-fails, pass-end}
 use Rattle.inspect.specs.Parts.{Opened}
 use Rattle.inspect.proofs.Laws.{opened-few}
 use Rattle.links.proofs.Laws.{key-pos, link-nil, link-is}
+use Rattle.base.specs.Laws.{never}
 
 -- ---- the unused entries of a pointer block
 
@@ -114,17 +115,13 @@ module _ {π : Partition} {l : List ℕ} {f : ℕ} (o : Opened π l f) where
 
   fails : (k : ℕ) → P k ≡ true → linkTest π (view l) f k ≡ false → false ≡ linked π (view l) f
   unfolding linked
-  fails k p h = go (linked π (view l) f) refl
-    where
-      go : (t : Bool) → linked π (view l) f ≡ t → false ≡ t
-      go true q = absurd (true≢false (sym (span-at (len (view l) f) (linkTest π (view l) f) q k (present-low π (view l) f k p) (present-high π (view l) f k p)) ∙ h))
-      go false q = refl
+  fails k p h = sym (never _ (λ q. true≢false (sym (span-at (len (view l) f) (linkTest π (view l) f) q k (present-low π (view l) f k p) (present-high π (view l) f k p)) ∙ h)))
 
   pub link-starts : {k b own : ℕ} → k ≡ least π (view l) f → (b ≡ spot π (view l) f k) × (b ≤ π .e) → own ≡ pda (π .drive) b → Linking π l f k 0 b own
   link-starts {k} hk hb q = record {
     passed = λ i a m. test-absent π (view l) f i (none i a m);
     there = there;
-    back = link-nil π (view l) f _ (prev-one P k _ 0 (below-is π (view l) f (o .formed) k (present-low π (view l) f k there)) (record { hit = λ n. absurd (n refl); none = λ i a m _. none i a m }));
+    back = link-nil π (view l) f _ (prev-one P k _ 0 (below-prev π (view l) f k) (record { hit = λ n. absurd (n refl); none = λ i a m _. none i a m }));
     here = hb .0;
     within = hb .1;
     address = q;
@@ -134,14 +131,14 @@ module _ {π : Partition} {l : List ℕ} {f : ℕ} (o : Opened π l f) where
       there = rw hk (least-present π (view l) f (o .formed) .1)
 
       none : (i : ℕ) → 0 < i → i < k → P i ≡ false
-      none i a m = least-is π (view l) f (o .formed) .none i a (λ _. omega (arith, hk))
+      none i a m = least-is π (view l) f (opened-few o) .none i a (λ _. omega (arith, hk))
 
   pub link-tail : {k before b own : ℕ} → Linking π l f k before b own → tails π (view l) f k ≡ false → false ≡ linked π (view l) f
   link-tail {k} g h = fails k (g .there) (test-tail π (view l) f k (g .there) h)
 
   module _ {k before b own j : ℕ} (g : Turn π l f k before b own j) where
     next : Next P k j
-    next = rw (g .next) (above-is π (view l) f (o .formed) k (present-high π (view l) f k (g .at .there)))
+    next = rw (g .next) (above-next π (view l) f k)
 
     pub next-there : j ≢ 0 → P j ≡ true
     next-there n = next .hit n .0

@@ -20,17 +20,16 @@ use Rattle.volume.specs.Words.{freeHeadAt, freeTailAt, numberFreeAt}
 use Rattle.volume.specs.Files.{address, owned, unowned}
 use Rattle.volume.specs.declared.Partition.{Partition}
 use Rattle.volume.specs.Answers.{Unmarred}
-use Rattle.volume.specs.Frame.{Clean, Formed, formed, agree-clean, agree-owned, agree-unowned}
+use Rattle.volume.specs.Frame.{Clean, Formed, formed, agree-clean, agree-owned, agree-unowned, of-clean, clean-of}
 use Rattle.volume.specs.Plans.{st, stores, repaired, repairedPib, repairPlan, repairStores}
-use Rattle.frame.specs.Clean.{of-clean}
 use Rattle.frame.specs.Repair.{mid-agree}
 use Rattle.frame.specs.Restart.{Part, start, hits, hits-tab-in, repaired-same, target-same, target-pib}
 use Rattle.repair.specs.declared.Progress.{Progress}
-use Rattle.links.proofs.Laws as files
 use Rattle.blocks.specs.Ready.{Ready}
 use Rattle.blocks.specs.Standing.{Standing, stand-starts, stand-last, stand-many}
-use Rattle.blocks.specs.Fits.{fits-of}
 use Rattle.volume.specs.Reads.{address-lda}
+use Rattle.frame.specs.Fitted.{repaired-fits}
+use Rattle.frame.specs.Fitting.{view-fits}
 
 -- block b is unowned
 abbrev pub isFree : Partition → View → ℕ → Bool
@@ -110,7 +109,7 @@ pub record Mending (π : Partition) (l : List ℕ) (limit : ℕ) (l′ : List �
   pub low : π .s < b
   pub same : length l′ ≡ length l
   pub done : Applied limit (tabFrom (suc (π .s)) (b - suc (π .s)) (storeAt π (view l))) l l′ (t .left)
-  pub part : Part π (view l) (files.formed π (view l) (ready .none)) (view l′)
+  pub part : Part π (view l) (clean-of π (view l) (ready .none)) (view l′)
   pub stand : Standing (isFree π (view l)) (π .s) (π .e) b (t .last) (t .next) (t .count)
 
 pub mend-starts : (π : Partition) (l : List ℕ) (limit first b : ℕ) → Ready π l → first ≡ headOf 0 (unowned π (view l)) → b ≡ suc (π .s)
@@ -123,7 +122,7 @@ mend-starts π l limit first b r q j =
       low = omega arith;
       same = refl;
       done = rw z (record { image = rw take-nil; rest = omega arith });
-      part = start π (view l) (files.formed π (view l) (r .none));
+      part = start π (view l) (clean-of π (view l) (r .none));
       stand = stand-starts (isFree π (view l)) (π .s) (π .e) first (r .lies .order) q;
     })
 
@@ -134,7 +133,7 @@ module _ {π : Partition} {l : List ℕ} {limit : ℕ} {l′ : List ℕ} {b : �
       let g = m .ready .lies in
       record {
         lies = record { known = g .known; start = g .start; order = g .order; within = subst (λ (n : ℕ). 528 * π .e + 528 ≤ n) (sym (m .same)) (g .within); few = g .few; small = g .small };
-        none = still-clean π (view l) (files.formed π (view l) (m .ready .none)) (view l′) (m .part);
+        none = still-clean π (view l) (clean-of π (view l) (m .ready .none)) (view l′) (m .part);
       }
 
   pub mend-turn : (first : ℕ) → first ≡ headOf 0 (unowned π (view l)) → b ≤ π .e → Turn π l′ first b t
@@ -149,12 +148,12 @@ module _ {π : Partition} {l : List ℕ} {limit : ℕ} {l′ : List ℕ} {b : �
   pub mend-next : {l″ : List ℕ} {t′ : Progress} → Bytes l → b ≤ π .e → Turned π l′ l″ b t t′ → Mending π l limit l″ (b + 1) t′
   mend-next {l″} {t′} by hi p =
       let lo = m .low in
-      let c : Clean π (view l) = files.formed π (view l) (m .ready .none) in
+      let c : Clean π (view l) = clean-of π (view l) (m .ready .none) in
       let f : ℕ → Store = storeAt π (view l) in
       let R : Rec = repaired π (view l) (unowned π (view l)) b in
       let q : repaired π (view l′) (unowned π (view l′)) b ≡ R = sym (repaired-same π (view l) c (view l′) (m .part .blocks) b (λ z. omega arith)) in
       let one : Applied (t .left) (st b R ∷ []) l′ l″ (t′ .left) = subst (λ (x : Rec). Applied (t .left) (st b x ∷ []) l′ l″ (t′ .left)) q (p .store) in
-      let a = applied-view (t .left) b R l′ l″ (t′ .left) one (omega (arith, m .same, m .ready .lies .within)) (fits-of π l (m .ready .lies .few) by b lo hi) in
+      let a = applied-view (t .left) b R l′ l″ (t′ .left) one (omega (arith, m .same, m .ready .lies .within)) (repaired-fits π (view l) (m .ready .lies .few) (m .ready .lies .order) b (view-fits l b by)) in
       let n : b + 1 - suc (π .s) ≡ suc (b - suc (π .s)) = omega arith in
       let at : suc (π .s) + (b - suc (π .s)) ≡ b = omega arith in
       let list : tabFrom (suc (π .s)) (b + 1 - suc (π .s)) f ≡ tabFrom (suc (π .s)) (b - suc (π .s)) f ++ (st b R ∷ []) =
@@ -189,7 +188,7 @@ module _ {π : Partition} {l : List ℕ} {limit : ℕ} {l′ : List ℕ} {t : Pr
       → R ≡ repairedPib π (view l) (unowned π (view l))
   unfolding unowned
   mend-pib first {R} h q =
-      let c : Clean π (view l) = files.formed π (view l) (m .ready .none) in
+      let c : Clean π (view l) = clean-of π (view l) (m .ready .none) in
       let u = same-unowned π (view l) c (view l′) (m .part) in
       q ∙ pib-is π (view l′) _ (h ∙ ap (headOf 0) u) (stand-last (m .stand) ∙ ap (lastOf 0) u) (stand-many (m .stand) ∙ ap length u)
       ∙ sym (target-pib π (view l′)) ∙ sym (target-same π (view l) c (view l′) (m .part) (π .s)) ∙ target-pib π (view l)

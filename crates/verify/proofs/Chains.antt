@@ -1,6 +1,6 @@
 -- The free chain's tests, by what the walk and the count find. Assumes nothing.
 use mathlib.Core.Path.{_≡_, refl, sym, _∙_}
-use mathlib.Core.List.{List, [], _∷_}
+use mathlib.Core.List.{List}
 use mathlib.Core.Bool.{Bool, true, false, true≢false}
 use Prim.Native.Nat.{ℕ, suc, _-_, _≤_, _<_}
 use native.Mathlib.Omega.{arith}
@@ -8,21 +8,15 @@ use lib.ListN.{length}
 use borrow.Author.Tests.{lt-ltb}
 use Rattle.base.specs.Tests.{pick, every, all, count, lastOf, headOf}
 use Rattle.image.specs.View.{View}
-use Rattle.base.specs.Laws.{both-left, both-right}
 use Rattle.volume.specs.Steps.{every-no}
 use Rattle.volume.specs.Files.{inside, within, chain, chained, free, freeHead, onceTest, freeSound}
 use Rattle.volume.specs.declared.Partition.{Partition}
-use Rattle.volume.specs.Reads.{inside-of}
 use Rattle.verify.specs.Walks.{walk, walked, named, freeAt}
 use Rattle.verify.specs.declared.Walk.{Walk}
 use Rattle.verify.specs.declared.Walk.the-variants.{Wrong, Free}
 use Rattle.verify.proofs.Free.{Fine, Verdict, fine, wrong, walk-says, fine-here}
 use Rattle.verify.proofs.Pigeon.{all-there, there-many, there-none}
-
-last-in : (π : Partition) (b : ℕ) (l : List ℕ) → b ≤ π.e → within π l ≡ true → lastOf b l ≤ π.e
-unfolding lastOf within
-last-in π b [] h w = h
-last-in π b (x ∷ l) h w = last-in π x l (inside-of π x (both-left _ _ w) .1) (both-right _ _ w)
+use Rattle.frame.specs.Chain.{last-in, head-chain}
 
 module _ (π : Partition) (v : View) where
   chain-head : (k b : ℕ) → Fine π v 0 (chain π v (suc k) b) → inside π b ≡ true
@@ -86,10 +80,6 @@ module _ (π : Partition) (v : View) where
     pub free-counts : (n last : ℕ) → r ≡ Free n last → Counts (free π v) n last
     free-counts n last t = by-free n last (walked-says h) (sym q ∙ t)
 
-  head-of : (k b : ℕ) → headOf 0 (chain π v (suc k) b) ≡ b
-  unfolding chain headOf
-  head-of k b = refl
-
   some-of : (k b : ℕ) → 0 < length (chain π v (suc k) b)
   unfolding chain
   some-of k b = omega arith
@@ -100,7 +90,7 @@ module _ (π : Partition) (v : View) where
 
     pub head-is : headOf 0 (free π v) ≡ freeHead π v
     unfolding free
-    head-is = rw more (head-of (π.e - π.s - 1) (freeHead π v))
+    head-is = rw more (head-chain π v (π.e - π.s - 1) (freeHead π v))
 
     pub some-is : 0 < length (free π v)
     unfolding free

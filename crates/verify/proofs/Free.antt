@@ -1,5 +1,5 @@
 -- The walk of the free chain: laws for the loop, and what its answer says of the chain. Assumes nothing.
-use mathlib.Core.Path.{_≡_, refl, sym, _∙_}
+use mathlib.Core.Path.{_≡_, refl, sym, _∙_, ap}
 use mathlib.Core.List.{List, [], _∷_}
 use mathlib.Core.Bool.{Bool, true, false, not, true≢false}
 use Prim.Native.Nat.{ℕ, zero, suc, _+_, _-_, _≤_, _<_}
@@ -7,7 +7,7 @@ use native.Mathlib.Omega.{arith}
 use native.Mathlib.Nat.{sub-zero}
 use lib.Dec.{eqb}
 use lib.ListN.{length}
-use borrow.Author.Tests.{eq-eqb, ne-eqb, eqb-true, eqb-false}
+use borrow.Author.Tests.{eq-eqb, eqb-true, eqb-false}
 use Rattle.base.specs.Tests.{both, lastOf, headOf}
 use Rattle.drive.specs.Address.{pda, pdaBlock, orNil}
 use Rattle.image.specs.View.{View, pair}
@@ -15,13 +15,14 @@ use Rattle.base.specs.Laws.{both-of, both-left, both-right}
 use Rattle.volume.specs.Words.{nextAt, previousAt}
 use Rattle.volume.specs.Files.{inside, owned, within, chain, chained}
 use Rattle.volume.specs.declared.Partition.{Partition}
-use Rattle.volume.specs.Reads.{inside-of}
+use Rattle.volume.specs.Reads.{inside-of, or-pda}
 use Rattle.volume.specs.Steps.{more, none}
 use Rattle.verify.specs.Walks.{onward, stepAt, walk}
 use Rattle.verify.specs.declared.Step.{Step}
 use Rattle.verify.specs.declared.Step.the-variants.{Bad, End, On}
 use Rattle.verify.specs.declared.Walk.{Walk}
 use Rattle.verify.specs.declared.Walk.the-variants.{Wrong, Free}
+use Rattle.frame.specs.Chain.{chain-end, chain-more}
 
 -- the loop: n passed of at most m; w is the answer of the whole
 pub record Walking (π : Partition) (v : View) (m before b n : ℕ) (w : Walk) : Type 0 where
@@ -85,9 +86,6 @@ module _ (π : Partition) (v : View) where
     fine : {m z : ℕ} → Fine before l → m ≡ n + length l → z ≡ lastOf 0 l → Verdict before n l (Free m z)
     wrong : {x : ℕ} → (Fine before l → ⊥) → Verdict before n l (Wrong x)
 
-  not-yes : (t : Bool) → t ≡ false → not t ≡ true
-  not-yes t h = rw h
-
   module _ (before b : ℕ) (l : List ℕ) where
     pub fine-owned : owned π v b ≡ true → Fine before (b ∷ l) → ⊥
     unfolding noneOwned
@@ -111,27 +109,11 @@ module _ (π : Partition) (v : View) where
 
     pub fine-cons : inside π b ≡ true → owned π v b ≡ false → eqb (pair v b previousAt) (orNil (π .drive) before) ≡ true → pair v b nextAt ≡ orNil (π .drive) (headOf 0 l) → Fine b l → Fine before (b ∷ l)
     unfolding within chained noneOwned
-    fine-cons i o p n g = record { ins = both-of i (g .ins); links = both-of p (both-of (eq-eqb _ _ n) (g .links)); unowned = both-of (not-yes _ o) (g .unowned) }
+    fine-cons i o p n g = record { ins = both-of i (g .ins); links = both-of p (both-of (eq-eqb _ _ n) (g .links)); unowned = both-of (ap not o) (g .unowned) }
 
   fine-nil : (before : ℕ) → Fine before []
   unfolding within chained noneOwned
   fine-nil before = record { ins = refl; links = refl; unowned = refl }
-
-  not-zero : (b : ℕ) → inside π b ≡ true → orNil (π .drive) b ≡ pda π.drive b
-  not-zero b i = rw (ne-eqb b 0 (λ z. omega (arith, inside-of π b i .0)))
-
-  -- the chain from b, by its link
-  chain-end : (k b : ℕ) → pair v b nextAt ≡ 0 → chain π v (suc k) b ≡ b ∷ []
-  unfolding chain
-  chain-end k b h = rw (eq-eqb _ _ h, chain)
-
-  chain-on : (k b : ℕ) → (pair v b nextAt ≡ 0 → ⊥) → chain π v (suc k) b ≡ b ∷ chain π v k (pdaBlock π.drive (pair v b nextAt))
-  unfolding chain
-  chain-on k b h = rw (ne-eqb _ _ h, chain)
-
-  head-chain : (k b : ℕ) → headOf 0 (chain π v (suc k) b) ≡ b
-  unfolding chain headOf
-  head-chain k b = refl
 
   last-chain : (k b c : ℕ) → lastOf 0 (b ∷ chain π v (suc k) c) ≡ lastOf 0 (chain π v (suc k) c)
   unfolding chain lastOf
@@ -144,7 +126,7 @@ module _ (π : Partition) (v : View) where
   fine-on zero before b h g = absurd (h (fine-next before b _ g))
   fine-on (suc k) before b h g =
       let i = fine-here b _ _ (fine-rest before b _ g) in
-      both-of i (eq-eqb _ _ (sym (fine-next before b _ g ∙ not-zero _ i)))
+      both-of i (eq-eqb _ _ (sym (fine-next before b _ g ∙ or-pda π _ i)))
 
   extend : (before b n k : ℕ) {w : Walk} → inside π b ≡ true → owned π v b ≡ false → eqb (pair v b previousAt) (orNil (π .drive) before) ≡ true
       → both (inside π (pdaBlock π.drive (pair v b nextAt))) (eqb (pda π.drive (pdaBlock π.drive (pair v b nextAt))) (pair v b nextAt)) ≡ true
@@ -152,7 +134,7 @@ module _ (π : Partition) (v : View) where
       → Verdict before n (b ∷ chain π v (suc k) (pdaBlock π.drive (pair v b nextAt))) w
   unfolding headOf chain
   extend before b n k ib o p i (fine g m z) =
-      fine (fine-cons before b _ ib o p (sym (eqb-true _ _ (both-right _ _ i)) ∙ sym (not-zero _ (both-left _ _ i))) g)
+      fine (fine-cons before b _ ib o p (sym (eqb-true _ _ (both-right _ _ i)) ∙ sym (or-pda π _ (both-left _ _ i))) g)
       (m ∙ omega arith) (z ∙ sym (last-chain k b (pdaBlock π.drive (pair v b nextAt))))
   extend before b n k ib o p i (wrong h) = wrong (λ g. h (fine-rest before b _ g))
 
@@ -182,9 +164,9 @@ module _ (π : Partition) (v : View) where
           → Verdict before n (chain π v (suc k) b) (walk π v (suc k) before b n)
       go true p u q y r z i = rw (p, walk, stepAt) (wrong (chain-owned k before b p))
       go false p false q y r z i = rw (p, q, walk, stepAt) (wrong (λ g. true≢false (sym (chain-prev k before b g) ∙ q)))
-      go false p true q true r z i = rw (p, q, chain-end k b (eqb-true _ _ r), walk, stepAt, onward, r) (fine {m = n + 1} {z = b} (fine-cons before b [] ib p q (eqb-true x 0 r) (fine-nil b)) (omega arith) refl)
-      go false p true q false r false i = rw (p, q, chain-on k b (eqb-false _ _ r), walk, stepAt, onward, r, i) (wrong (λ g. true≢false (sym (fine-on k before b (eqb-false _ _ r) g) ∙ i)))
-      go false p true q false r true i = rw (p, q, chain-on k b (eqb-false _ _ r), walk, stepAt, onward, r, i) (rec p q (eqb-false _ _ r) i)
+      go false p true q true r z i = rw (p, q, chain-end π v k b (eqb-true _ _ r), walk, stepAt, onward, r) (fine {m = n + 1} {z = b} (fine-cons before b [] ib p q (eqb-true x 0 r) (fine-nil b)) (omega arith) refl)
+      go false p true q false r false i = rw (p, q, chain-more π v k b (eqb-false _ _ r), walk, stepAt, onward, r, i) (wrong (λ g. true≢false (sym (fine-on k before b (eqb-false _ _ r) g) ∙ i)))
+      go false p true q false r true i = rw (p, q, chain-more π v k b (eqb-false _ _ r), walk, stepAt, onward, r, i) (rec p q (eqb-false _ _ r) i)
 
   pub walk-says : (k before b n : ℕ) → inside π b ≡ true → Verdict before n (chain π v (suc k) b) (walk π v (suc k) before b n)
   unfolding walk chain headOf

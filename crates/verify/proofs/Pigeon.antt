@@ -6,34 +6,31 @@ use Prim.Native.Nat.{ℕ, suc, _+_, _-_, _≤_, _<_}
 use native.Mathlib.Omega.{arith}
 use lib.Dec.{eqb}
 use lib.ListN.{length}
-use borrow.Author.Tests.{eq-eqb, ne-eqb, eqb-true}
+use borrow.Author.Tests.{eq-eqb, eqb-true}
 use Rattle.base.specs.Tests.{pick, all, count, occ, headOf}
 use Rattle.base.specs.Sums.{sum, sum-same, sum-equal, count-sum}
-use Rattle.drive.specs.Address.{pda, pdaBlock, orNil}
+use Rattle.drive.specs.Address.{pda, pdaBlock}
 use Rattle.drive.specs.Laws.{pda-back, pda-pos}
 use Rattle.image.specs.View.{View}
-use Rattle.base.specs.Laws.{both-of, both-left, both-right, all-at, all-of}
+use Rattle.base.specs.Laws.{both-of, both-left, both-right, all-of}
 use Rattle.volume.specs.Files.{onceTest, inside, owned, within}
 use Rattle.volume.specs.declared.Partition.{Partition}
-use Rattle.volume.specs.Reads.{inside-of}
-use Rattle.frame.specs.FreeChain.{length-sum}
+use Rattle.volume.specs.Reads.{or-pda, all-inside}
+use Rattle.frame.specs.FreeChain.{length-sum, length-unowned}
 use Rattle.verify.specs.Walks.{freeAt}
 use Rattle.verify.proofs.Free.{Fine, noneOwned, fine-next, fine-here, fine-rest}
 
 module _ (π : Partition) (v : View) where
-  some : (b : ℕ) → inside π b ≡ true → orNil (π .drive) b ≡ pda π.drive b
-  some b i = rw (ne-eqb b 0 (λ z. omega (arith, inside-of π b i .0)))
-
   -- two fine lists from one block are equally long
   same-length : (l m : List ℕ) (p q x : ℕ) → Fine π v p (x ∷ l) → Fine π v q (x ∷ m) → length l ≡ length m
   unfolding headOf
   same-length [] [] p q x f g = refl
-  same-length [] (y ∷ m) p q x f g = absurd (omega (arith, pda-pos π.drive y, sym (some y (fine-here π v x y m (fine-rest π v q x (y ∷ m) g))) ∙ sym (fine-next π v q x (y ∷ m) g) ∙ fine-next π v p x [] f))
-  same-length (y ∷ l) [] p q x f g = absurd (omega (arith, pda-pos π.drive y, sym (some y (fine-here π v x y l (fine-rest π v p x (y ∷ l) f))) ∙ sym (fine-next π v p x (y ∷ l) f) ∙ fine-next π v q x [] g))
+  same-length [] (y ∷ m) p q x f g = absurd (omega (arith, pda-pos π.drive y, sym (or-pda π y (fine-here π v x y m (fine-rest π v q x (y ∷ m) g))) ∙ sym (fine-next π v q x (y ∷ m) g) ∙ fine-next π v p x [] f))
+  same-length (y ∷ l) [] p q x f g = absurd (omega (arith, pda-pos π.drive y, sym (or-pda π y (fine-here π v x y l (fine-rest π v p x (y ∷ l) f))) ∙ sym (fine-next π v p x (y ∷ l) f) ∙ fine-next π v q x [] g))
   same-length (y ∷ l) (z ∷ m) p q x f g =
       let f′ = fine-rest π v p x (y ∷ l) f in
       let g′ = fine-rest π v q x (z ∷ m) g in
-      let a : pda π.drive y ≡ pda π.drive z = sym (some y (fine-here π v x y l f′)) ∙ sym (fine-next π v p x (y ∷ l) f) ∙ fine-next π v q x (z ∷ m) g ∙ some z (fine-here π v x z m g′) in
+      let a : pda π.drive y ≡ pda π.drive z = sym (or-pda π y (fine-here π v x y l f′)) ∙ sym (fine-next π v p x (y ∷ l) f) ∙ fine-next π v q x (z ∷ m) g ∙ or-pda π z (fine-here π v x z m g′) in
       let b : y ≡ z = sym (pda-back π.drive y) ∙ ap (pdaBlock π.drive) a ∙ pda-back π.drive z in
       ap suc (same-length l m x x y f′ (rw b g′))
 
@@ -84,8 +81,11 @@ module _ (π : Partition) (v : View) where
           go false o = rw o (once l 0 (suc (π.s + i)) f)
 
   -- and back
+  there-once : (l : List ℕ) → all (π.e - π.s) (onceTest π v l) ≡ true → (b : ℕ) → inside π b ≡ true → occ b l ≡ pick (owned π v b) 0 1
+  there-once l h b i = eqb-true _ _ (all-inside π (λ x. eqb (occ x l) (pick (owned π v x) 0 1)) h b i)
+
   pub there-many : π.s < π.e → (l : List ℕ) → within π l ≡ true → all (π.e - π.s) (onceTest π v l) ≡ true → length l ≡ count (π.e - π.s) (freeAt π v)
-  there-many g l w h = length-sum π l g w ∙ sum-same (π.e - π.s) _ _ (λ i m. eqb-true _ _ (all-at (π.e - π.s) (onceTest π v l) h i m)) ∙ sym free-sum
+  there-many g l w h = length-unowned π v l g w (there-once l h)
 
   none-of : (l : List ℕ) → within π l ≡ true → ((b : ℕ) → inside π b ≡ true → owned π v b ≡ true → occ b l ≡ 0) → noneOwned π v l ≡ true
   unfolding occ noneOwned within
@@ -100,11 +100,4 @@ module _ (π : Partition) (v : View) where
       less b q = omega arith
 
   pub there-none : (l : List ℕ) → within π l ≡ true → all (π.e - π.s) (onceTest π v l) ≡ true → noneOwned π v l ≡ true
-  there-none l w h = none-of l w (λ b i o. at b (inside-of π b i) o)
-    where
-      at : (b : ℕ) → (π.s < b) × (b ≤ π.e) → owned π v b ≡ true → occ b l ≡ 0
-      at b i o =
-          let n : ℕ = b - suc π.s in
-          let q : suc (π.s + n) ≡ b = omega (arith, i .0) in
-          let r = eqb-true (occ (suc (π.s + n)) l) _ (all-at (π.e - π.s) (onceTest π v l) h n (omega (arith, i .0, i .1))) in
-          sym (ap (λ (y : ℕ). occ y l) q) ∙ r ∙ ap (λ (t : Bool). pick t 0 1) (ap (owned π v) q ∙ o)
+  there-none l w h = none-of l w (λ b i o. there-once l h b i ∙ ap (λ (t : Bool). pick t 0 1) o)

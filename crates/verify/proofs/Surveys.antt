@@ -13,7 +13,6 @@ use Rattle.volume.specs.declared.Partition.{Partition}
 use Rattle.volume.specs.Answers.{lowestMalformed, Unmarred, checkIn, tallied}
 use Rattle.volume.specs.Index.{wf-of}
 use Rattle.volume.specs.Closed.{sizeOf, size-closed}
-use Rattle.frame.specs.Clean.{of-clean}
 use Rattle.frame.specs.Needed.{needs, needed, owned-needed}
 use Rattle.frame.specs.Sound.{tested}
 use Rattle.volume.specs.Steps.{both-no}
@@ -27,6 +26,7 @@ use Rattle.verify.specs.declared.Standing.{Standing}
 use Rattle.verify.specs.declared.Standing.the-variants as stands
 use Rattle.verify.specs.declared.Survey.{Survey}
 use Rattle.verify.specs.declared.Survey.the-variants as found
+use Rattle.volume.specs.Frame.{of-clean}
 
 -- a standing, by its two tests, and back
 abbrev told : Bool → Bool → ℕ → Standing

@@ -1,12 +1,13 @@
 -- The closed forms of a file without holes that has at most 4,160 blocks, as laws: its link order is -(3+P) .. -4, -1, 0 .. L.
 use mathlib.Core.Path.{_≡_, refl, sym, ap, ap₂, _∙_}
 use mathlib.Core.Logic.{_⊎_, inl, inr, _≢_}
-use mathlib.Core.Bool.{Bool, true, false, _||_, true≢false}
+use mathlib.Core.Bool.{Bool, true, false, _||_}
 use Prim.Native.Nat.{ℕ, zero, suc, _+_, _-_, _/_, _%_, _≤_, _<_}
 use native.Mathlib.Omega.{arith}
 use lib.Dec.{ltb, eqb}
 use borrow.Author.Tests.{ltb-true, ltb-false, eqb-true, eqb-false, lt-ltb, le-ltb}
 use Rattle.base.specs.Tests.{pick, count}
+use Rattle.base.specs.Laws.{never, iff-eq}
 use Rattle.base.specs.Sums.{count-nil}
 use Rattle.drive.specs.Address.{ldaBlock}
 use Rattle.image.specs.View.{View, pair}
@@ -15,8 +16,8 @@ use Rattle.volume.specs.Keys.{home, child, first, low}
 use Rattle.volume.specs.KeyLaws.{row-direct, row-data, row-ptr, asked-closed, closed-ptr, first-data, low-home, low-pos, child-first}
 use Rattle.volume.specs.Files.{len, spot, present, wellFormed, above, below, least, size}
 use Rattle.volume.specs.declared.Partition.{Partition}
-use Rattle.volume.specs.Index.{wf-of, here-of, present-home, present-low, present-high, spot-step, entry-at, entry-fib}
-use Rattle.volume.specs.Order.{Next, Prev, next-one, prev-one, above-is, below-is, least-is, size-is, count-split}
+use Rattle.volume.specs.Index.{wf-of, here-of, present-home, spot-step, entry-at, entry-fib}
+use Rattle.volume.specs.Order.{Next, Prev, next-one, prev-one, above-next, below-prev, least-is, size-is, count-split}
 
 -- a file with n blocks has key k; the key behind and before one that it has, or 0; how many keys it has
 abbrev pub hasKey : ℕ → ℕ → Bool
@@ -86,7 +87,7 @@ module _ (n : ℕ) (short : n ≤ 4160) (P : ℕ → Bool) (is : (k : ℕ) → P
           at (inr x) = inr (x .0, omega (arith, x .1))
 
   has-not : (k : ℕ) → (k < low n) ⊎ (((289 ≤ k) × (k < home)) ⊎ (home + n < k)) → P k ≡ false
-  has-not k s = go (P k) refl
+  has-not k s = never _ (λ q. no s (has-only k q))
     where
       no : (k < low n) ⊎ (((289 ≤ k) × (k < home)) ⊎ (home + n < k)) → ((low n ≤ k) × (k < 289)) ⊎ ((home ≤ k) × (k ≤ home + n)) → ⊥
       no (inl a) (inl b) = omega (arith, a, b .0)
@@ -95,10 +96,6 @@ module _ (n : ℕ) (short : n ≤ 4160) (P : ℕ → Bool) (is : (k : ℕ) → P
       no (inr (inl a)) (inr b) = omega (arith, a .1, b .0)
       no (inr (inr a)) (inl b) = omega (arith, a, b .1)
       no (inr (inr a)) (inr b) = omega (arith, a, b .1)
-
-      go : (t : Bool) → P k ≡ t → t ≡ false
-      go true q = absurd (no s (has-only k q))
-      go false q = refl
 
   pub next-key : (k : ℕ) → P k ≡ true → Next P k (nextKey n k)
   next-key k h = go (eqb k 288) refl (ltb k (home + n)) refl
@@ -195,31 +192,38 @@ module _ (π : Partition) (v : View) (f : ℕ) where
       let w = row-data r l in
       spot-step π v f (292 + r) (λ z. omega arith) ∙ ap (ldaBlock (π .drive)) (entry-at π v f (292 + r) ∙ ap₂ (λ (k x : ℕ). pair v (spot π v f k) x) (w .0) (w .1))
 
--- what it has, its link order and how many blocks that are
+-- what it has and how many blocks that are, where every key that it asks for is present
+module _ (π : Partition) (v : View) (f : ℕ) (full : (k : ℕ) → first k < len v f → present π v f k ≡ true) where
+  pub present-full : (k : ℕ) → present π v f k ≡ hasKey (len v f) k
+  present-full k = go (eqb k home) refl
+    where
+      go : (t : Bool) → eqb k home ≡ t → present π v f k ≡ (t || ltb (first k) (len v f))
+      go true q = ap (present π v f) (eqb-true k home q) ∙ present-home π v f
+      go false q = iff-eq _ _ (λ p. lt-ltb _ _ (here-of π v f k (eqb-false k home q) p .asked)) (λ l. full k (ltb-true _ _ l))
+
+  module _ (short : len v f ≤ 4160) where
+    pub least-full : least π v f ≡ low (len v f)
+    least-full = next-one (present π v f) 0 _ _ (least-is π v f short) (first-key (len v f) short (present π v f) present-full)
+
+    pub size-full : size π v f ≡ sizeOf (len v f)
+    size-full = size-is π v f (292 + len v f) (omega arith) ∙ count-keys (len v f) short (present π v f) present-full
+
+-- the same of a file that is well formed, and its link order
 module _ (π : Partition) (v : View) (f : ℕ) (wf : wellFormed π v f ≡ true) where
   short : len v f ≤ 4160
   short = wf-of π v f wf .short
 
   pub present-closed : (k : ℕ) → present π v f k ≡ hasKey (len v f) k
-  present-closed k = go (eqb k home) refl (present π v f k) refl (ltb (first k) (len v f)) refl
-    where
-      go : (t : Bool) → eqb k home ≡ t → (u : Bool) → present π v f k ≡ u → (w : Bool) → ltb (first k) (len v f) ≡ w → u ≡ (t || w)
-      go true q u p w z = sym p ∙ ap (present π v f) (eqb-true k home q) ∙ present-home π v f
-      go false q true p true z = refl
-      go false q false p false z = refl
-      go false q true p false z = absurd (omega (arith, here-of π v f k (eqb-false k home q) p .asked, ltb-false (first k) (len v f) z))
-      go false q false p true z = absurd (true≢false (sym (wf-of π v f wf .full k (ltb-true (first k) (len v f) z)) ∙ p))
-
-  pub above-closed : (k : ℕ) → present π v f k ≡ true → above π v f k ≡ nextKey (len v f) k
-  above-closed k h =
-      next-one (present π v f) k _ _ (above-is π v f wf k (present-high π v f k h)) (next-key (len v f) short (present π v f) present-closed k h)
-
-  pub below-closed : (k : ℕ) → present π v f k ≡ true → below π v f k ≡ prevKey (len v f) k
-  below-closed k h =
-      prev-one (present π v f) k _ _ (below-is π v f wf k (present-low π v f k h)) (prev-key (len v f) short (present π v f) present-closed k h)
+  present-closed = present-full π v f (wf-of π v f wf .full)
 
   pub least-closed : least π v f ≡ low (len v f)
-  least-closed = next-one (present π v f) 0 _ _ (least-is π v f wf) (first-key (len v f) short (present π v f) present-closed)
+  least-closed = least-full π v f (wf-of π v f wf .full) short
 
   pub size-closed : size π v f ≡ sizeOf (len v f)
-  size-closed = size-is π v f wf (292 + len v f) (omega arith) ∙ count-keys (len v f) short (present π v f) present-closed
+  size-closed = size-full π v f (wf-of π v f wf .full) short
+
+  pub above-closed : (k : ℕ) → present π v f k ≡ true → above π v f k ≡ nextKey (len v f) k
+  above-closed k h = next-one (present π v f) k _ _ (above-next π v f k) (next-key (len v f) short (present π v f) present-closed k h)
+
+  pub below-closed : (k : ℕ) → present π v f k ≡ true → below π v f k ≡ prevKey (len v f) k
+  below-closed k h = prev-one (present π v f) k _ _ (below-prev π v f k) (prev-key (len v f) short (present π v f) present-closed k h)

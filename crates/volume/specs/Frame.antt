@@ -2,21 +2,24 @@
 use mathlib.Core.Path.{_≡_, refl, sym, ap, ap₂, _∙_, subst}
 use mathlib.Core.Logic.{_⊎_, inl, inr, _≢_}
 use mathlib.Core.List.{List, [], _∷_}
-use mathlib.Core.Bool.{Bool, true, not}
+use mathlib.Core.Bool.{Bool, true, false, not, true≢false}
 use Prim.Native.Nat.{ℕ, zero, suc, _+_, _-_, _*_, _%_, _≤_, _<_}
+use native.Mathlib.Omega.{arith}
 use lib.Dec.{eqb}
 use borrow.Author.Tests.{eqb-false}
-use Rattle.base.specs.Tests.{pick, every, count, those}
+use Rattle.base.specs.Tests.{pick, both, every, count, those}
 use Rattle.base.specs.Laws.{pick-same, cons-same, iff-eq, both-left, both-of}
 use Rattle.drive.specs.Address.{pda, pdaBlock, ldaBlock}
 use Rattle.image.specs.View.{View, Rec, pair}
 use Rattle.volume.specs.Words.{lastBlockAt, lastAddressAt, inUseAt, lowNumberAt, lowAddressAt}
-use Rattle.volume.specs.Order.{least-present}
+use Rattle.volume.specs.Order.{least-present, above-next, below-prev}
 use Rattle.volume.specs.Search.{seek, down, seek-same, down-same, count-same}
 use Rattle.volume.specs.Keys.{home, keyOf, number, reach, up, slot, first, low, span}
 use Rattle.volume.specs.KeyLaws.{key-ind}
-use Rattle.volume.specs.Files.{isLda, candidate, len, spot, present, entry, wellFormed, isFile, fileOf, key, owned, files, unowned, above, below, least, size, tally, link}
+use Rattle.volume.specs.Files.{isLda, candidate, len, spot, present, entry, wellFormed, isFile, isMalformed, fileOf, key, owned, files, unowned, above, below, least, size, tally, link}
 use Rattle.volume.specs.declared.Partition.{Partition}
+use Rattle.volume.specs.Answers.{lowestMalformed, Unmarred}
+use Rattle.volume.specs.Reads.{candidate-in, lowest-none, none-lowest}
 use Rattle.volume.specs.Index.{here-of, of-here, spot-home, spot-step, present-home, Member, WF, wf-of, of-wf, own, owned-by, file-candidate}
 
 -- two records with the same serial and relative number
@@ -125,6 +128,12 @@ module _ (π : Partition) (v v′ : View) (f : ℕ) where
     unfolding link
     kept-link k h = pick-same (eqb k 0) (λ _. refl) (λ q. ap (pda (π .drive)) (kept-spot k (h (eqb-false k 0 q))))
 
+    pub kept-next : (k : ℕ) → link π v f (above π v f k) ≡ link π v′ f (above π v′ f k)
+    kept-next k = kept-link (above π v f k) (λ n. above-next π v f k .hit n .0) ∙ ap (link π v′ f) (kept-above k)
+
+    pub kept-prev : (k : ℕ) → link π v f (below π v f k) ≡ link π v′ f (below π v′ f k)
+    kept-prev k = kept-link (below π v f k) (λ n. below-prev π v f k .hit n .0) ∙ ap (link π v′ f) (kept-below k)
+
     pub fib-entry : (k : ℕ) → k ≢ home → up k ≡ home → pair v f (slot k) ≡ pair v′ f (slot k)
     fib-entry k n q =
         subst (λ (b : ℕ). pair v b (slot k) ≡ pair v′ b (slot k)) (ap (spot π v f) q ∙ spot-home π v f) (s .entries k n (ap (present π v f) q ∙ present-home π v f) (inr q))
@@ -182,6 +191,25 @@ module _ (π : Partition) where
   -- no candidate is malformed
   abbrev pub Clean : View → Type 0
   Clean v = (f : ℕ) → candidate π v f ≡ true → wellFormed π v f ≡ true
+
+  -- exactly if the lowest malformed one is none
+  pub clean-of : (v : View) → Unmarred π v → Clean v
+  unfolding lowestMalformed isMalformed both
+  clean-of v h f c = go (wellFormed π v f) refl
+    where
+      go : (t : Bool) → wellFormed π v f ≡ t → t ≡ true
+      go true q = refl
+      go false q =
+          let i = candidate-in π v f c in
+          absurd (true≢false (sym (both-of {a = candidate π v f} {b = not (wellFormed π v f)} c (ap not q)) ∙ lowest-none (isMalformed π v) (π .e - π .s) (π .s + 1) h f (omega (arith, i .0)) (omega (arith, i .0, i .1))))
+
+  pub of-clean : (v : View) → Clean v → Unmarred π v
+  unfolding lowestMalformed isMalformed both
+  of-clean v c = none-lowest (isMalformed π v) (π .e - π .s) (π .s + 1) (λ f l u. go f (candidate π v f) refl)
+    where
+      go : (f : ℕ) (t : Bool) → candidate π v f ≡ t → isMalformed π v f ≡ false
+      go f true q = rw (q, c f q, isMalformed)
+      go f false q = rw (q, isMalformed)
 
   -- the same candidates, each of the same form; and with the same content
   pub record Formed (v v′ : View) : Type 0 where

@@ -6,9 +6,9 @@ use mathlib.Core.Bool.{Bool, true, false, not, _||_, true≢false}
 use Prim.Native.Nat.{ℕ, zero, suc, _+_, _-_, _≤_, _<_}
 use native.Mathlib.Omega.{arith}
 use lib.Dec.{ltb, eqb}
-use borrow.Author.Tests.{ltb-true, ltb-false, eqb-true, eqb-false, lt-ltb, le-ltb, eq-eqb, ne-eqb, le-leb, leb-true}
+use borrow.Author.Tests.{ltb-true, ltb-false, eqb-true, eqb-false, lt-ltb, le-ltb, eq-eqb, ne-eqb, le-leb, leb-true, not-true}
 use Rattle.base.specs.Tests.{pick, both, every, all}
-use Rattle.base.specs.Laws.{all-at, all-of, pick-same, every-at, both-left, both-right, both-of, cons-same}
+use Rattle.base.specs.Laws.{all-at, all-of, pick-same, every-at, both-left, both-right, both-of, cons-same, never}
 use Rattle.drive.specs.Address.{pda, pdaBlock, ldaBlock}
 use Rattle.drive.specs.Laws.{pda-back}
 use Rattle.image.specs.View.{View, pair}
@@ -17,6 +17,7 @@ use Rattle.volume.specs.Keys.{home, keyOf, number, reach, up, slot, firs
 use Rattle.volume.specs.KeyLaws.{level, up-level, level-few, level-zero, low-home, low-pos, asked-low, asked-high, last-asked, span-end, fib-keys, near-keys, key-number, number-home, number-fib}
 use Rattle.volume.specs.Files.{inside, isLda, serial, candidate, len, spotIn, presentIn, spot, present, entry, named, keyTest, nilTest, indexed, fullTest, gapless, tally, wellFormed, isFile, fileOf, key, owned}
 use Rattle.volume.specs.declared.Partition.{Partition}
+use Rattle.volume.specs.Reads.{off-pib}
 
 -- a test at every key that n blocks can ask for
 module _ (n : ℕ) (P : ℕ → Bool) where
@@ -27,13 +28,6 @@ module _ (n : ℕ) (P : ℕ → Bool) where
 
   pub span-of : ((k : ℕ) → low n ≤ k → k ≤ home + n → P k ≡ true) → all (span n) (λ i. P (low n + i)) ≡ true
   span-of h = all-of (span n) _ (λ i l. h (low n + i) (omega arith) (omega (arith, span-end n)))
-
-not-true : (t : Bool) → not t ≡ true → t ≡ false
-not-true true h = sym h
-not-true false h = refl
-
-not-of : (t : Bool) → t ≡ false → not t ≡ true
-not-of t h = ap not h
 
 -- an implication as a test
 pub unless-at : (a b : Bool) → (not a || b) ≡ true → a ≡ true → b ≡ true
@@ -108,7 +102,7 @@ module _ (π : Partition) (v : View) (f : ℕ) where
       record { asked = ltb-true _ _ (both-left _ _ g); held = both-left _ _ u; said = eqb-false _ _ (not-true _ (both-right _ _ u)) }
 
   pub of-here : (k : ℕ) → k ≢ home → Here k → present π v f k ≡ true
-  of-here k n h = present-step k n ∙ both-of (lt-ltb _ _ (h .asked)) (both-of (h .held) (not-of _ (ne-eqb _ _ (h .said))))
+  of-here k n h = present-step k n ∙ both-of (lt-ltb _ _ (h .asked)) (both-of (h .held) (ap not (ne-eqb _ _ (h .said))))
 
   -- present keys lie between the least that L asks for and the last block
   pub present-low : (k : ℕ) → present π v f k ≡ true → low (len v f) ≤ k
@@ -176,7 +170,7 @@ module _ (π : Partition) (v : View) (f : ℕ) where
       ends true q = ap (present π v f) (let z : home + len v f ≡ home = omega (arith, eqb-true (len v f) 0 q) in z) ∙ present-home
       ends false q = full (home + len v f) (last-asked (len v f) (omega (arith, eqb-false (len v f) 0 q)))
 
-  named-of : WF → (k : ℕ) → k ≢ home → present π v f k ≡ true → named π v f k ≡ true
+  pub named-of : WF → (k : ℕ) → k ≢ home → present π v f k ≡ true → named π v f k ≡ true
   unfolding named every
   named-of h k n p =
       let m = h .mine k n p in
@@ -308,8 +302,10 @@ module _ (π : Partition) (v : View) (b : ℕ) (h : owned π v b ≡ true) where
   owned-in = named-member π v _ _ b (owned-named π v b h) .ins
 
   pub owned-not-pib : b ≢ (π .s)
-  unfolding inside
-  owned-not-pib z = omega (arith, ltb-true (π .s) b (both-left _ _ owned-in))
+  owned-not-pib = off-pib π b owned-in
+
+pub pib-not : (π : Partition) (v : View) → owned π v (π .s) ≡ false
+pib-not π v = never _ (λ h. owned-not-pib π v (π .s) h refl)
 
 -- ---- an entry stands in its holder
 

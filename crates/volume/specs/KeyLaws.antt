@@ -67,13 +67,13 @@ pub first-data : (k : ℕ) → home < k → first k ≡ k - 292
 unfolding first
 first-data k h = simp (lt-ltb 291 k h)
 
-first-double : (k : ℕ) → 288 < k → k < 291 → first k ≡ 4160 + 16384 * (290 - k)
+pub first-doubles : (k : ℕ) → 288 < k → k < 291 → first k ≡ 4160 + 16384 * (290 - k)
 unfolding first
-first-double k a b = simp (le-ltb 291 k (omega arith), ne-eqb k 291 (λ z. omega arith), lt-ltb 288 k a)
+first-doubles k a b = simp (le-ltb 291 k (omega arith), ne-eqb k 291 (λ z. omega arith), lt-ltb 288 k a)
 
-first-ptr : (k : ℕ) → k ≤ 288 → first k ≡ 64 + 128 * (288 - k)
+pub first-pointer : (k : ℕ) → k ≤ 288 → first k ≡ 64 + 128 * (288 - k)
 unfolding first
-first-ptr k a = simp (le-ltb 291 k (omega arith), ne-eqb k 291 (λ z. omega arith), le-ltb 288 k a)
+first-pointer k a = simp (le-ltb 291 k (omega arith), ne-eqb k 291 (λ z. omega arith), le-ltb 288 k a)
 
 -- a holder lies nearer to the FIB
 pub up-level : (k : ℕ) → k ≢ home → level (up k) < level k
@@ -116,14 +116,14 @@ first-up k n = rows (λ u _ g _. first u ≤ g) k
     (λ a. ptr (omega arith) (omega arith)) (λ a b. ptr (omega arith) (omega arith)) (λ a b. fib) (λ a. absurd (n a)) (λ a b. fib) (λ a b. fib) (λ a. far a (ltb 0 k) refl)
   where
     ptr : {u g : ℕ} → u ≤ 288 → 64 + 128 * (288 - u) ≤ g → first u ≤ g
-    ptr {u} {g} a b = omega (arith, first-ptr u a)
+    ptr {u} {g} a b = omega (arith, first-pointer u a)
 
     fib : {g : ℕ} → first home ≤ g
     fib {g} = omega (arith, first-home)
 
     far : k ≤ 256 → (t : Bool) → ltb 0 k ≡ t → first (290 - (256 - k) / 128) ≤ 64 + 128 * (288 - k)
-    far a true q = let p = ltb-true 0 k q in omega (arith, first-double (290 - (256 - k) / 128) (omega arith) (omega arith))
-    far a false q = let p = ltb-false 0 k q in omega (arith, first-ptr (290 - (256 - k) / 128) (omega arith))
+    far a true q = let p = ltb-true 0 k q in omega (arith, first-doubles (290 - (256 - k) / 128) (omega arith) (omega arith))
+    far a false q = let p = ltb-false 0 k q in omega (arith, first-pointer (290 - (256 - k) / 128) (omega arith))
 
 -- what n blocks ask for lies between the least key and the last block
 pub low-home : (n : ℕ) → low n ≤ home
@@ -235,6 +235,10 @@ key-number k h = omega arith
 pub number-home : number home ≡ 65535
 unfolding number
 number-home = refl
+
+pub number-small : (k : ℕ) → number k < 65536
+unfolding number
+number-small k = omega arith
 
 pub number-fib : (k : ℕ) → k < 65536 → number k ≡ 65535 → k ≡ home
 unfolding number
@@ -365,18 +369,12 @@ unfolding low
 closed-ptr n k a b = go (ltb 64 n) refl a
   where
     go : (t : Bool) → ltb 64 n ≡ t → pick t (289 - (n + 63) / 128) home ≤ k → first k < n
-    go true q l = omega (arith, first-ptr k (omega arith), ltb-true 64 n q)
+    go true q l = omega (arith, first-pointer k (omega arith), ltb-true 64 n q)
     go false q l = absurd (omega arith)
 
 pub row-double : (i : ℕ) → i < 2 → (up (290 - i) ≡ home) × (slot (290 - i) ≡ 252 + 2 * i)
 row-double i l = rows (λ u w _ _. (u ≡ home) × (w ≡ 252 + 2 * i)) (290 - i)
     (λ a. absurd (omega arith)) (λ a b. absurd (omega arith)) (λ a b. absurd (omega arith)) (λ a. absurd (omega arith)) (λ a b. (refl, omega arith)) (λ a b. absurd (omega arith)) (λ a. absurd (omega arith))
-
-pub first-pointer : (k : ℕ) → k ≤ 288 → first k ≡ 64 + 128 * (288 - k)
-first-pointer k a = first-ptr k a
-
-pub first-doubles : (k : ℕ) → 288 < k → k < 291 → first k ≡ 4160 + 16384 * (290 - k)
-first-doubles k a b = first-double k a b
 
 -- entry i of a pointer block over data
 pub child-data : (k i : ℕ) → k ≤ 288 → child k (slotAt i) ≡ 356 + 128 * (288 - k) + i
@@ -384,4 +382,4 @@ unfolding child
 child-data k i a = simp (ne-eqb k 291 (λ z. omega arith), le-ltb 288 k (omega arith)) (omega arith)
 
 pub child-first : (k i : ℕ) → k ≤ 288 → first (child k (slotAt i)) ≡ first k + i
-child-first k i a = ap first (child-data k i a) ∙ first-data (356 + 128 * (288 - k) + i) (omega arith) ∙ omega (arith, first-ptr k a)
+child-first k i a = ap first (child-data k i a) ∙ first-data (356 + 128 * (288 - k) + i) (omega arith) ∙ omega (arith, first-pointer k a)

@@ -7,10 +7,11 @@ use native.Mathlib.Omega.{arith}
 use lib.Dec.{ltb, eqb}
 use borrow.Author.Tests.{ltb-true, ltb-false, eqb-true, eqb-false}
 use Rattle.base.specs.Tests.{count}
+use Rattle.base.specs.Laws.{never}
 use Rattle.base.specs.Sums.{count-nil}
 use Rattle.image.specs.View.{View}
 use Rattle.volume.specs.Search.{seek, down, Least, Greatest, seek-least, down-greatest}
-use Rattle.volume.specs.Keys.{home, low, span}
+use Rattle.volume.specs.Keys.{home, low, reach, span}
 use Rattle.volume.specs.KeyLaws.{low-pos, span-end}
 use Rattle.volume.specs.Files.{wellFormed, len, present, above, below, least, size}
 use Rattle.volume.specs.declared.Partition.{Partition}
@@ -83,82 +84,41 @@ module _ (P : ℕ → Bool) where
         ap (λ (x : ℕ). count x P) z,
         count-split (a + m) (e - (a + m)),
         count-split a m,
-        count-nil a P (λ i l. no i (λ t. omega (arith, h i t .0))),
-        count-nil (e - (a + m)) (λ i. P (a + m + i)) (λ i l. no (a + m + i) (λ t. omega (arith, h (a + m + i) t .1))),
+        count-nil a P (λ i l. never _ (λ t. omega (arith, h i t .0))),
+        count-nil (e - (a + m)) (λ i. P (a + m + i)) (λ i l. never _ (λ t. omega (arith, h (a + m + i) t .1))),
       )
+
+  -- ---- searches over all numbers that may pass: up to e, from a on, and between them
+
+  pub seek-next : (e : ℕ) → ((i : ℕ) → P i ≡ true → i ≤ e) → (k n : ℕ) → e < suc k + n → Next P k (seek n (suc k) P)
+  seek-next e top k n l = record { hit = λ m. (s .hit m .0, s .hit m .1 .0); none = λ i b m. never _ (λ p. clash p (s .none i b (omega (arith, top i p)) m)) }
     where
-      no : (i : ℕ) → (P i ≡ true → ⊥) → P i ≡ false
-      no i n = go (P i) refl
-        where
-          go : (t : Bool) → P i ≡ t → t ≡ false
-          go true q = absurd (n q)
-          go false q = refl
+      s : Least P (suc k) (suc k + n) (seek n (suc k) P)
+      s = seek-least n (suc k) P (omega arith)
+
+  pub down-prev : (a : ℕ) → ((i : ℕ) → P i ≡ true → a ≤ i) → (k : ℕ) → Prev P k (down a (k - a) P)
+  down-prev a low k = record { hit = λ m. (s .hit m .0, omega (arith, s .hit m .1)); none = λ i b l m. never _ (λ p. clash p (s .none i b (low i p) (omega (arith, low i p)) m)) }
+    where
+      s : Greatest P a (a + (k - a)) (down a (k - a) P)
+      s = down-greatest a (k - a) P
+
+  pub seek-first : (a e : ℕ) → 0 < a → ((i : ℕ) → P i ≡ true → (a ≤ i) × (i ≤ e)) → (n : ℕ) → e < a + n → Next P 0 (seek n a P)
+  seek-first a e pos inn n l = record { hit = λ m. (s .hit m .0, omega (arith, s .hit m .1 .0)); none = λ i b m. never _ (λ p. clash p (s .none i (inn i p .0) (omega (arith, inn i p .1)) m)) }
+    where
+      s : Least P a (a + n) (seek n a P)
+      s = seek-least n a P pos
 
 -- ---- of a file
 
-module _ (π : Partition) (v : View) (f : ℕ) (h : wellFormed π v f ≡ true) where
-  pos : 0 < low (len v f)
-  pos = low-pos (len v f) (wf-of π v f h .short)
-
-  absent : (i : ℕ) → (present π v f i ≡ true → ⊥) → present π v f i ≡ false
-  absent i n = go (present π v f i) refl
-    where
-      go : (t : Bool) → present π v f i ≡ t → t ≡ false
-      go true q = absurd (n q)
-      go false q = refl
-
+module _ (π : Partition) (v : View) (f : ℕ) where
   -- above and below find the next present key and skip none
-  pub above-is : (k : ℕ) → k ≤ home + len v f → Next (present π v f) k (above π v f k)
+  pub above-next : (k : ℕ) → Next (present π v f) k (above π v f k)
   unfolding above
-  above-is k l = record { hit = λ n. (s .hit n .0, s .hit n .1 .0); none = λ i a m. at i a m (ltb (home + len v f) i) refl }
-    where
-      s : Least (present π v f) (suc k) (suc k + (home + len v f - k)) (seek (home + len v f - k) (suc k) (present π v f))
-      s = seek-least (home + len v f - k) (suc k) (present π v f) (omega arith)
+  above-next k = seek-next (present π v f) (home + len v f) (present-high π v f) k (home + len v f - k) (omega arith)
 
-      at : (i : ℕ) → k < i → (seek (home + len v f - k) (suc k) (present π v f) ≢ 0 → i < seek (home + len v f - k) (suc k) (present π v f))
-          → (t : Bool) → ltb (home + len v f) i ≡ t → present π v f i ≡ false
-      at i a m true q = absent i (λ p. omega (arith, ltb-true (home + len v f) i q, present-high π v f i p))
-      at i a m false q = s .none i a (omega (arith, ltb-false (home + len v f) i q)) m
-
-  pub below-is : (k : ℕ) → low (len v f) ≤ k → Prev (present π v f) k (below π v f k)
+  pub below-prev : (k : ℕ) → Prev (present π v f) k (below π v f k)
   unfolding below
-  below-is k l = record { hit = λ n. (s .hit n .0, omega (arith, s .hit n .1 .1)); none = λ i p a m. at i a m (ltb i (low (len v f))) refl }
-    where
-      s : Greatest (present π v f) (low (len v f)) (low (len v f) + (k - low (len v f))) (down (low (len v f)) (k - low (len v f)) (present π v f))
-      s = down-greatest (low (len v f)) (k - low (len v f)) (present π v f) pos
-
-      at : (i : ℕ) → i < k → (down (low (len v f)) (k - low (len v f)) (present π v f) ≢ 0 → down (low (len v f)) (k - low (len v f)) (present π v f) < i)
-          → (t : Bool) → ltb i (low (len v f)) ≡ t → present π v f i ≡ false
-      at i a m true q = absent i (λ p. omega (arith, ltb-true i (low (len v f)) q, present-low π v f i p))
-      at i a m false q = s .none i (ltb-false i (low (len v f)) q) (omega arith) m
-
-  -- the least present key: the next above 0
-  pub least-is : Next (present π v f) 0 (least π v f)
-  unfolding least
-  least-is = record { hit = λ n. (s .hit n .0, omega (arith, s .hit n .1 .0, pos)); none = λ i a m. at i m (ltb (home + len v f) i) refl (ltb i (low (len v f))) refl }
-    where
-      s : Least (present π v f) (low (len v f)) (low (len v f) + span (len v f)) (seek (span (len v f)) (low (len v f)) (present π v f))
-      s = seek-least (span (len v f)) (low (len v f)) (present π v f) pos
-
-      at : (i : ℕ) → (seek (span (len v f)) (low (len v f)) (present π v f) ≢ 0 → i < seek (span (len v f)) (low (len v f)) (present π v f))
-          → (t : Bool) → ltb (home + len v f) i ≡ t → (u : Bool) → ltb i (low (len v f)) ≡ u → present π v f i ≡ false
-      at i m true q u r = absent i (λ p. omega (arith, ltb-true (home + len v f) i q, present-high π v f i p))
-      at i m false q true r = absent i (λ p. omega (arith, ltb-true i (low (len v f)) r, present-low π v f i p))
-      at i m false q false r = s .none i (ltb-false i (low (len v f)) r) (omega (arith, ltb-false (home + len v f) i q, span-end (len v f))) m
-
-  pub least-present : (least π v f ≢ 0) × (present π v f (least π v f) ≡ true)
-  least-present = (ne, least-is .hit ne .0)
-    where
-      ne : least π v f ≢ 0
-      ne z = true≢false (sym (present-home π v f) ∙ least-is .none home (omega arith) (λ n. absurd (n z)))
-
-  pub above-below : (k : ℕ) → present π v f k ≡ true → above π v f k ≢ 0 → below π v f (above π v f k) ≡ k
-  above-below k p n =
-      let a = above-is k (present-high π v f k p) in
-      let q = a .hit n in
-      let l = present-low π v f k p in
-      prev-one (present π v f) (above π v f k) _ k (below-is (above π v f k) (present-low π v f _ (q .0)))
-      (next-prev (present π v f) k (above π v f k) (omega (arith, pos)) p n a)
+  below-prev k = down-prev (present π v f) (low (len v f)) (present-low π v f) k
 
   -- blocks in use: the present keys, counted up to any bound past the last
   pub size-is : (e : ℕ) → home + len v f < e → size π v f ≡ count e (present π v f)
@@ -166,3 +126,35 @@ module _ (π : Partition) (v : View) (f : ℕ) (h : wellFormed π v f ≡ true) 
   size-is e l =
       count-window (present π v f) (low (len v f)) (span (len v f)) e
       (λ i p. (present-low π v f i p, omega (arith, present-high π v f i p, span-end (len v f)))) (omega (arith, span-end (len v f)))
+
+  module _ (short : len v f ≤ reach) where
+    -- the least present key: the next above 0, and not behind the FIB
+    pub least-is : Next (present π v f) 0 (least π v f)
+    unfolding least
+    least-is = seek-first (present π v f) (low (len v f)) (home + len v f) (low-pos (len v f) short) (λ i p. (present-low π v f i p, present-high π v f i p)) (span (len v f)) (omega (arith, span-end (len v f)))
+
+    pub least-most : least π v f ≤ home
+    least-most = go (ltb home (least π v f)) refl
+      where
+        go : (t : Bool) → ltb home (least π v f) ≡ t → least π v f ≤ home
+        go true q = clash (present-home π v f) (least-is .none home (omega arith) (λ _. ltb-true home (least π v f) q))
+        go false q = ltb-false home (least π v f) q
+
+  module _ (h : wellFormed π v f ≡ true) where
+    -- the same where the file is known to be well formed
+    pub above-is : (k : ℕ) → k ≤ home + len v f → Next (present π v f) k (above π v f k)
+    above-is k _ = above-next k
+
+    pub below-is : (k : ℕ) → low (len v f) ≤ k → Prev (present π v f) k (below π v f k)
+    below-is k _ = below-prev k
+
+    pub least-present : (least π v f ≢ 0) × (present π v f (least π v f) ≡ true)
+    least-present = (ne, least-is (wf-of π v f h .short) .hit ne .0)
+      where
+        ne : least π v f ≢ 0
+        ne z = clash (present-home π v f) (least-is (wf-of π v f h .short) .none home (omega arith) (λ n. absurd (n z)))
+
+    pub above-below : (k : ℕ) → present π v f k ≡ true → above π v f k ≢ 0 → below π v f (above π v f k) ≡ k
+    above-below k p n =
+        prev-one (present π v f) (above π v f k) _ k (below-prev (above π v f k))
+        (next-prev (present π v f) k (above π v f k) (omega (arith, present-low π v f k p, low-pos (len v f) (wf-of π v f h .short))) p n (above-next k))

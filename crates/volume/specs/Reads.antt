@@ -1,21 +1,24 @@
--- What the definitions say to code: that what passed its test lies in the partition, and which address is written over an old one.
-use mathlib.Core.Path.{_≡_, refl}
+-- What the definitions say to code and to laws: where what passed its test lies, what a search without a hit says, and which address is
+-- written over an old one.
+use mathlib.Core.Path.{_≡_, refl, sym, ap, _∙_, subst}
+use mathlib.Core.Logic.{_≢_}
 use mathlib.Core.List.{List}
 use mathlib.Core.Bool.{Bool, true, false}
-use Prim.Native.Nat.{ℕ, _+_, _-_, _*_, _/_, _≤_, _<_}
+use Prim.Native.Nat.{ℕ, zero, suc, _+_, _-_, _*_, _/_, _≤_, _<_}
 use native.Mathlib.Omega.{arith}
 use lib.ListN.{length}
 use lib.Dec.{eqb}
-use borrow.Author.Tests.{ltb-true, leb-true, eqb-true}
-use Rattle.base.specs.Tests.{pick}
-use Rattle.drive.specs.Address.{blocks, lda}
+use borrow.Author.Tests.{ltb-true, leb-true, eqb-true, eqb-false, ne-eqb, lt-ltb, le-leb}
+use Rattle.base.specs.Tests.{pick, all}
+use Rattle.drive.specs.Address.{blocks, lda, pda, orNil}
 use Rattle.image.specs.View.{View}
 use Rattle.image.specs.Image.{view}
-use Rattle.base.specs.Laws.{every-at, both-left, both-right}
-use Rattle.volume.specs.Files.{partitionOf, isLda, address, inside, candidate}
+use Rattle.base.specs.Laws.{all-at, every-at, both-left, both-right, both-of}
+use Rattle.volume.specs.Files.{partitionOf, blockAt, isLda, address, inside, candidate}
 use Rattle.volume.specs.declared.Partition.{Partition}
 use Rattle.drive.specs.Laws.{blocks-few}
-use Rattle.volume.specs.Answers.{imageGood, partGood, endOf, partition, inPartition}
+use Rattle.volume.specs.Answers.{imageGood, partGood, endOf, partition, inPartition, lowest}
+use Rattle.volume.specs.declared.Found.the-variants.{At, Nothing}
 use Rattle.volume.specs.declared.Part.the-variants.{Good, Refused}
 use Rattle.base.specs.declared.Refusal.{Refusal}
 use Rattle.base.specs.declared.Refusal.the-variants.{BadImage, BadPartition}
@@ -23,6 +26,39 @@ use Rattle.base.specs.declared.Refusal.the-variants.{BadImage, BadPartition}
 pub inside-of : (π : Partition) (b : ℕ) → inside π b ≡ true → (π .s < b) × (b ≤ π .e)
 unfolding inside
 inside-of π b h = (ltb-true (π .s) b (both-left _ _ h), leb-true b (π .e) (both-right _ _ h))
+
+pub of-inside : (π : Partition) (b : ℕ) → π .s < b → b ≤ π .e → inside π b ≡ true
+unfolding inside
+of-inside π b l m = both-of (lt-ltb (π .s) b l) (le-leb b (π .e) m)
+
+-- a block of the partition is not the PIB, and has an address
+pub off-pib : (π : Partition) (b : ℕ) → inside π b ≡ true → b ≢ π .s
+off-pib π b i z = omega (arith, inside-of π b i .0)
+
+pub or-pda : (π : Partition) (b : ℕ) → inside π b ≡ true → orNil (π .drive) b ≡ pda (π .drive) b
+or-pda π b i = ap (λ (t : Bool). pick t 0 (pda (π .drive) b)) (ne-eqb b 0 (λ z. omega (arith, inside-of π b i .0)))
+
+-- a test that holds of blocks s + 1 to e
+pub all-inside : (π : Partition) (P : ℕ → Bool) → all (π .e - π .s) (λ i. P (blockAt π i)) ≡ true → (b : ℕ) → inside π b ≡ true → P b ≡ true
+all-inside π P h b i =
+    let w = inside-of π b i in
+    subst (λ (x : ℕ). P x ≡ true) (let z : suc (π .s + (b - suc (π .s))) ≡ b = omega (arith, w .0) in z) (all-at (π .e - π .s) _ h (b - suc (π .s)) (omega (arith, w .0, w .1)))
+
+-- the lowest that passes is none exactly if none does
+pub lowest-none : (p : ℕ → Bool) (n a : ℕ) → lowest p a n ≡ Nothing → (x : ℕ) → a ≤ x → x < a + n → p x ≡ false
+unfolding lowest
+lowest-none p zero a h x l u = absurd (omega arith)
+lowest-none p (suc n) a h x l u = go (p a) refl h (eqb a x) refl (λ q k. lowest-none p n (a + 1) q x k (omega arith))
+  where
+    go : (t : Bool) → p a ≡ t → elim t [ true ↦ At a | false ↦ lowest p (a + 1) n ] ≡ Nothing → (m : Bool) → eqb a x ≡ m → (lowest p (a + 1) n ≡ Nothing → a + 1 ≤ x → p x ≡ false) → p x ≡ false
+    go true q h m z ih = let y : _≡_ {A = ℕ} 0 1 = cc in absurd (omega arith)
+    go false q h true z ih = ap p (sym (eqb-true a x z)) ∙ q
+    go false q h false z ih = ih h (let n = eqb-false a x z in omega arith)
+
+pub none-lowest : (p : ℕ → Bool) (n a : ℕ) → ((x : ℕ) → a ≤ x → x < a + n → p x ≡ false) → lowest p a n ≡ Nothing
+unfolding lowest
+none-lowest p zero a h = refl
+none-lowest p (suc n) a h = let q : p a ≡ false = h a (omega arith) (omega arith) in rw (q, lowest) (none-lowest p n (a + 1) (λ x l u. h x (omega arith) (omega arith)))
 
 -- an address that names b already is b's LDA, so that the one written over any other is too
 pub address-lda : (d old b : ℕ) → address d old b ≡ lda d b

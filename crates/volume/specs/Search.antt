@@ -25,9 +25,10 @@ pub record Least (P : ℕ → Bool) (a e j : ℕ) : Type 0 where
   pub hit : j ≢ 0 → (P j ≡ true) × ((a ≤ j) × (j < e))
   pub none : (i : ℕ) → a ≤ i → i < e → (j ≢ 0 → i < j) → P i ≡ false
 
+-- from above: the greatest, or 0 if none but 0 passes
 pub record Greatest (P : ℕ → Bool) (a e j : ℕ) : Type 0 where
   pub hit : j ≢ 0 → (P j ≡ true) × ((a ≤ j) × (j < e))
-  pub none : (i : ℕ) → a ≤ i → i < e → (j ≢ 0 → j < i) → P i ≡ false
+  pub none : (i : ℕ) → 0 < i → a ≤ i → i < e → (j ≢ 0 → j < i) → P i ≡ false
 
 pub seek-least : (n k : ℕ) (P : ℕ → Bool) → 0 < k → Least P k (k + n) (seek n k P)
 unfolding seek
@@ -45,21 +46,21 @@ seek-least (suc n) k P p = go (P k) refl (seek-least n (suc k) P (omega arith))
         at i l m u true z = ap P (eqb-true i k z) ∙ q
         at i l m u false z = ih .none i (omega (arith, eqb-false i k z)) (omega arith) u
 
-pub down-greatest : (l n : ℕ) (P : ℕ → Bool) → 0 < l → Greatest P l (l + n) (down l n P)
+pub down-greatest : (l n : ℕ) (P : ℕ → Bool) → Greatest P l (l + n) (down l n P)
 unfolding down
-down-greatest l zero P p = record { hit = λ n. absurd (n refl); none = λ i a m _. absurd (omega arith) }
-down-greatest l (suc n) P p = go (P (l + n)) refl (down-greatest l n P p)
+down-greatest l zero P = record { hit = λ n. absurd (n refl); none = λ i p a m _. absurd (omega arith) }
+down-greatest l (suc n) P = go (P (l + n)) refl (down-greatest l n P)
   where
     go : (t : Bool) → P (l + n) ≡ t → Greatest P l (l + n) (down l n P) → Greatest P l (l + suc n) (elim t [ true ↦ l + n | false ↦ down l n P ])
-    go true q ih = record { hit = λ n. (q, (omega arith, omega arith)); none = λ i a m u. absurd (omega (arith, u (λ z. omega arith))) }
+    go true q ih = record { hit = λ n. (q, (omega arith, omega arith)); none = λ i p a m u. absurd (omega (arith, u (λ z. omega arith))) }
     go false q ih = record {
       hit = λ n. let h = ih .hit n in (h .0, (h .1 .0, omega (arith, h .1 .1)));
-      none = λ i a m u. at i a m u (eqb i (l + n)) refl;
+      none = λ i p a m u. at i p a m u (eqb i (l + n)) refl;
     }
       where
-        at : (i : ℕ) → l ≤ i → i < l + suc n → (down l n P ≢ 0 → down l n P < i) → (x : Bool) → eqb i (l + n) ≡ x → P i ≡ false
-        at i a m u true z = ap P (eqb-true i (l + n) z) ∙ q
-        at i a m u false z = ih .none i a (omega (arith, eqb-false i (l + n) z)) u
+        at : (i : ℕ) → 0 < i → l ≤ i → i < l + suc n → (down l n P ≢ 0 → down l n P < i) → (x : Bool) → eqb i (l + n) ≡ x → P i ≡ false
+        at i p a m u true z = ap P (eqb-true i (l + n) z) ∙ q
+        at i p a m u false z = ih .none i p a (omega (arith, eqb-false i (l + n) z)) u
 
 -- equal tests
 pub seek-same : (n k : ℕ) (P Q : ℕ → Bool) → ((i : ℕ) → P i ≡ Q i) → seek n k P ≡ seek n k Q

@@ -11,7 +11,7 @@ use lib.ListN.{getD}
 use borrow.Author.Needs.{needs}
 use borrow.Author.Tests.{not-true, not-false, eq-eqb, ne-eqb}
 use Rattle.base.specs.Tests.{pick, both, every, all}
-use Rattle.base.specs.Laws.{all-at, all-of}
+use Rattle.base.specs.Laws.{all-at, all-of, never}
 use Rattle.volume.specs.Answers.{lowest}
 use Rattle.volume.specs.declared.Found.{Found}
 use Rattle.volume.specs.declared.Found.the-variants.{At, Nothing}
@@ -46,18 +46,10 @@ both-no-2 false b h = refl
 
 -- one that fails decides all
 pub all-no : (k : ℕ) (P : ℕ → Bool) (i : ℕ) → i < k → P i ≡ false → all k P ≡ false
-all-no k P i l h = go (all k P) refl
-  where
-    go : (t : Bool) → all k P ≡ t → all k P ≡ false
-    go false q = q
-    go true q = absurd (true≢false (sym (all-at k P q i l) ∙ h))
+all-no k P i l h = never _ (λ q. true≢false (sym (all-at k P q i l) ∙ h))
 
 pub all-fewer : (k m : ℕ) (P : ℕ → Bool) → m ≤ k → all m P ≡ false → all k P ≡ false
-all-fewer k m P l h = go (all k P) refl
-  where
-    go : (t : Bool) → all k P ≡ t → all k P ≡ false
-    go false q = q
-    go true q = absurd (true≢false (sym (all-of m P (λ i j. all-at k P q i (omega arith))) ∙ h))
+all-fewer k m P l h = never _ (λ q. true≢false (sym (all-of m P (λ i j. all-at k P q i (omega arith))) ∙ h))
 
 -- each number below i passed, of k; w is the answer of the whole
 pub record Passed (P : ℕ → Bool) (k i : ℕ) (w : Bool) : Type 0 where

@@ -1,4 +1,4 @@
--- Chained lists of blocks: with the same links, with another block before the first, and two of them joined.
+-- Lists of blocks joined, and chained ones: the end of one, with the same links, with another block before the first, and two joined.
 use mathlib.Core.Path.{_≡_, refl, sym, ap, _∙_, subst}
 use mathlib.Core.Logic.{_≢_}
 use mathlib.Core.List.{List, [], _∷_, _++_}
@@ -31,6 +31,17 @@ pub last-both : (x : ℕ) (l m : List ℕ) → lastOf x (l ++ m) ≡ lastOf (las
 unfolding lastOf
 last-both x [] m = refl
 last-both x (y ∷ l) m = last-both y l m
+
+-- the end of a list within the partition, and of a chained one
+pub within-end : (π : Partition) (l m : List ℕ) → within π (l ++ m) ≡ true → within π m ≡ true
+unfolding within
+within-end π [] m h = h
+within-end π (y ∷ l) m h = within-end π l m (both-right _ _ h)
+
+pub chained-end : (π : Partition) (v : View) (x : ℕ) (l m : List ℕ) → chained π v x (l ++ m) ≡ true → chained π v (lastOf x l) m ≡ true
+unfolding chained lastOf
+chained-end π v x [] m h = h
+chained-end π v x (y ∷ l) m h = chained-end π v y l m (both-right _ _ (both-right _ _ h))
 
 module _ (π : Partition) (v W : View) where
   -- the same links, the same chain
