@@ -19,7 +19,7 @@ use Rattle.image.specs.Image.{view}
 use Rattle.volume.specs.Words.{serialAt, relativeAt, fillerAt, nextAt, previousAt, freeHeadAt, freeTailAt, numberFreeAt, partitionStartAt, partitionEndAt}
 use Rattle.volume.specs.Files.{partitionOf, isLda, address, inside, candidate, wellFormed, isFile, owned, files, unowned, free, sound, blockAt}
 use Rattle.volume.specs.declared.Partition.{Partition}
-use Rattle.volume.specs.Frame.{Clean}
+use Rattle.volume.specs.Frame.{Clean, of-clean}
 use Rattle.volume.specs.Reads.{candidate-in}
 use Rattle.volume.specs.Table as table
 use Rattle.volume.specs.Plans.{asFiller, freed, repairedPib, repairPlan, repairStores}
@@ -28,7 +28,6 @@ use Rattle.volume.specs.Calls.{Planned, refuse, finish, repair, repairIn, plann
 use Rattle.volume.specs.declared.Outcome.the-variants.{Done, Refused}
 use Rattle.volume.specs.declared.Part.{Part}
 use Rattle.volume.specs.declared.Part.the-variants as part
-use Rattle.frame.specs.Clean.{of-clean}
 use Rattle.frame.specs.Mended.{mended-agree, free-is, sound-is}
 use Rattle.frame.specs.Repair.{repaired-free}
 use Rattle.frame.specs.Restart.{target, target-else, target-pib, repair-of, after-val, hits-tab-in, hits-pib}
@@ -310,7 +309,7 @@ repaired-fresh d s e l b q z = (
     π : Partition
     π = partitionOf d s e
 
-    h : Held d s e l
+    h : Held (partitionOf d s e) l
     h = record { good = q; bytes = b }
 
     c : Clean (partitionOf d s e) (view l)
