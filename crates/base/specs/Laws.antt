@@ -1,14 +1,13 @@
--- Laws of the tests: a conjunction and a bounded quantifier, taken apart, made, and rewritten; a test that cannot hold; a count.
+-- Laws of the tests: a conjunction and a bounded quantifier, taken apart, made, and rewritten; a test that cannot hold.
 use mathlib.Core.Path.{_≡_, refl, sym, ap₂, subst}
 use mathlib.Core.Logic.{_⊎_, inl, inr}
 use mathlib.Core.List.{List, [], _∷_}
 use lib.ListN.{getD}
 use mathlib.Core.Bool.{Bool, true, false, _&&_}
-use Prim.Native.Nat.{ℕ, zero, suc, _+_, _≤_, _<_}
-use native.Mathlib.Omega.{arith}
+use Prim.Native.Nat.{ℕ, zero, suc, _<_}
 use native.Mathlib.Nat.{le-refl, le-trans, le-suc, not-suc-le-zero, eq-or-lt-of-le, le-of-suc-le-suc}
 use borrow.Author.Tests.{eqb-true}
-use Rattle.base.specs.Tests.{pick, both, every, all, count, sameRow, sameTable}
+use Rattle.base.specs.Tests.{pick, both, every, all, sameRow, sameTable}
 
 pub and-left : (a b : Bool) → (a && b) ≡ true → a ≡ true
 and-left true b h = refl
@@ -40,15 +39,6 @@ pub all-same : (k : ℕ) (P Q : ℕ → Bool) → ((i : ℕ) → i < k → P i �
 unfolding all
 all-same zero P Q h = refl
 all-same (suc k) P Q h = ap₂ _&&_ (h k (le-refl (suc k))) (all-same k P Q (λ i l. h i (le-trans l (le-suc k))))
-
-pub count-most : (k : ℕ) (P : ℕ → Bool) → count k P ≤ k
-unfolding count
-count-most zero P = omega arith
-count-most (suc k) P = go (P k) (count-most k P)
-  where
-    go : (t : Bool) → count k P ≤ k → pick t 1 0 + count k P ≤ suc k
-    go true ih = omega arith
-    go false ih = omega arith
 
 -- a choice, branch by branch
 pub pick-same : {A : Type 0} (t : Bool) {a a′ b b′ : A} → (t ≡ true → a ≡ a′) → (t ≡ false → b ≡ b′) → pick t a b ≡ pick t a′ b′

@@ -2,7 +2,7 @@
 use mathlib.Core.Path.{_≡_, refl, sym, ap, ap₂, _∙_, fun-ext}
 use mathlib.Core.List.{List}
 use mathlib.Core.Bool.{Bool, true, false}
-use mathlib.Core.Logic.{_⊎_, inl, inr, _≢_}
+use mathlib.Core.Logic.{_≢_}
 use Prim.Native.Nat.{ℕ, _+_, _-_, _*_, _/_, _≤_, _<_}
 use native.Mathlib.Omega.{arith}
 use lib.Dec.{leb, ltb, eqb}
@@ -14,9 +14,9 @@ use Rattle.base.specs.Laws.{iff-eq, both-left, both-right, both-of}
 use Rattle.image.specs.View.{Rec}
 use Rattle.image.specs.Image.{recOf}
 use Rattle.volume.specs.Words.{slotAt}
-use Rattle.volume.specs.Keys.{home, child, first, low}
+use Rattle.volume.specs.Keys.{home, child, first}
 use Rattle.volume.specs.KeyLaws.{child-pair}
-use Rattle.volume.specs.Closed.{hasKey, entriesOf, entry-asked, has-only}
+use Rattle.volume.specs.Closed.{hasKey, entriesOf, entry-asked, has-pointers}
 use Rattle.volume.specs.Plans.{trimmed, shaped}
 
 -- a record whose words from a on are nil
@@ -58,11 +58,7 @@ trimmed-is n k m x e h = fun-ext (λ w. go w _ (ltb w 264) refl)
 
 -- a key below the FIB's is a pointer block, of those that the FIB names
 pub pointer-key : (n k : ℕ) → n ≤ 4160 → hasKey n k ≡ true → k < home → k ≤ 288
-pointer-key n k s h l = go (has-only n s (hasKey n) (λ _. refl) k h)
-  where
-    go : ((low n ≤ k) × (k < 289)) ⊎ ((home ≤ k) × (k ≤ home + n)) → k ≤ 288
-    go (inl q) = omega (arith, q .1)
-    go (inr q) = absurd (omega (arith, q .0))
+pointer-key n k s = has-pointers n s (hasKey n) (λ _. refl) k
 
 module _ (n k : ℕ) (r : Rec) where
   pub shaped-pointer : k < home → trimmed n k r ≡ shaped n k r

@@ -1,5 +1,5 @@
 -- The gate of the changing calls: refusals 1 to 5, on the unchanged image, and what lies behind it.
-use mathlib.Core.Path.{_≡_, refl, sym, ap, _∙_}
+use mathlib.Core.Path.{_≡_, refl, sym, ap, _∙_, subst}
 use mathlib.Core.Bool.{Bool, true, false}
 use mathlib.Core.List.{List}
 use Prim.Native.Nat.{ℕ, _/_, _≤_}
@@ -58,54 +58,7 @@ pub record Enters (d : ℕ) (l : List ℕ) (s : ℕ) (fits : Bool) (k : Partitio
   pub fit : fits ≡ true
   pub goes : through d l s fits k ≡ k (partitionOf d s e)
 
-module _ (d : ℕ) (l : List ℕ) (s : ℕ) (fits : Bool) (k : Partition → Planned) where
-  unequal : (y : Refusal) (e : ℕ) {A : Type 0} → part.Refused y ≡ part.Good e → A
-  unequal y e q = let z : _≡_ {A = ℕ} 0 1 = cc in absurd (omega arith)
-
-  pub enters : (e : ℕ) → gate d l s fits ≡ part.Good e → Enters d l s fits k e
-  unfolding gate through
-  enters e h = go (partition d l s) refl fits refl
-    where
-      inner : (x : ℕ) → partition d l s ≡ part.Good x → fits ≡ true
-          → (f : Found) → lowestMalformed (partitionOf d s x) (view l) ≡ f → (b : Bool) → sound (partitionOf d s x) (view l) ≡ b → Enters d l s fits k e
-      inner x p q (At y) r b z = unequal (Malformed y) e (sym (rw (p, gate, q, r)) ∙ h)
-      inner x p q Nothing r false z = unequal Unsound e (sym (rw (p, gate, q, r, z)) ∙ h)
-      inner x p q Nothing r true z =
-          let y : part.Good x ≡ part.Good e = sym (rw (p, gate, q, r, z)) ∙ h in
-          let i : x ≡ e = cc in
-          let g : partition d l s ≡ part.Good e = p ∙ ap part.Good i in
-          let r′ = rw i at r in
-          let z′ = rw i at z in
-          record { opens = record { good = g; lies = lies d l s e g; clean = r′; sound = z′ }; fit = q; goes = rw (g, through, q, r′, z′) }
-
-      go : (p : Part) → partition d l s ≡ p → (u : Bool) → fits ≡ u → Enters d l s fits k e
-      go (part.Refused n) p u q = unequal n e (sym (rw (p, gate)) ∙ h)
-      go (part.Good x) p false q = unequal BadBuffer e (sym (rw (p, gate, q)) ∙ h)
-      go (part.Good x) p true q = inner x p q (lowestMalformed (partitionOf d s x) (view l)) refl (sound (partitionOf d s x) (view l)) refl
-
-  pub goes-through : (e : ℕ) → Opens (partitionOf d s e) l → fits ≡ true → through d l s fits k ≡ k (partitionOf d s e)
-  unfolding through
-  goes-through e o q = rw (o .good, through, q, o .clean, o .sound)
-
-  pub shut : (y : Refusal) → gate d l s fits ≡ part.Refused y → through d l s fits k ≡ refuse y
-  unfolding gate through
-  shut y h = go (partition d l s) refl fits refl
-    where
-      same : (n : Refusal) → part.Refused n ≡ part.Refused y → n ≡ y
-      same n q = cc
-
-      inner : (x : ℕ) → partition d l s ≡ part.Good x → fits ≡ true
-          → (f : Found) → lowestMalformed (partitionOf d s x) (view l) ≡ f → (b : Bool) → sound (partitionOf d s x) (view l) ≡ b → through d l s fits k ≡ refuse y
-      inner x p q (At f) r b z = rw (p, through, q, r) (ap refuse (same (Malformed f) (sym (rw (p, gate, q, r)) ∙ h)))
-      inner x p q Nothing r false z = rw (p, through, q, r, z) (ap refuse (same Unsound (sym (rw (p, gate, q, r, z)) ∙ h)))
-      inner x p q Nothing r true z = unequal y x (sym (sym (rw (p, gate, q, r, z)) ∙ h))
-
-      go : (p : Part) → partition d l s ≡ p → (u : Bool) → fits ≡ u → through d l s fits k ≡ refuse y
-      go (part.Refused n) p u q = rw (p, through) (ap refuse (same n (sym (rw (p, gate)) ∙ h)))
-      go (part.Good x) p false q = rw (p, through, q) (ap refuse (same BadBuffer (sym (rw (p, gate, q)) ∙ h)))
-      go (part.Good x) p true q = inner x p q (lowestMalformed (partitionOf d s x) (view l)) refl (sound (partitionOf d s x) (view l)) refl
-
--- the gate refuses by 1 to 5 alone
+-- a partition is refused by 1 or 2
 part-number : (d : ℕ) (l : List ℕ) (s : ℕ) (y : Refusal) → partition d l s ≡ part.Refused y → number y ≤ 2
 unfolding partition
 part-number d l s y h = go (imageGood d (length l)) refl (partGood d (length l / 528) (view l) s) refl
@@ -115,26 +68,58 @@ part-number d l s y h = go (imageGood d (length l)) refl (partGood d (length l /
     go true p false q = let z : part.Refused BadPartition ≡ part.Refused y = sym (rw (p, q, partition)) ∙ h in let i : BadPartition ≡ y = cc in rw (← i) (omega arith)
     go false p u q = let z : part.Refused BadImage ≡ part.Refused y = sym (rw (p, partition)) ∙ h in let i : BadImage ≡ y = cc in rw (← i) (omega arith)
 
-pub gate-number : (d : ℕ) (l : List ℕ) (s : ℕ) (fits : Bool) (y : Refusal) → gate d l s fits ≡ part.Refused y → number y ≤ 5
-unfolding gate
-gate-number d l s fits y h = go (partition d l s) refl fits refl
+-- the ways through the gate: shut by 1 to 5, with every call's refusal, or open
+data Way (d : ℕ) (l : List ℕ) (s : ℕ) (fits : Bool) : Part → Type 0 where
+  shut-by : (y : Refusal) → number y ≤ 5 → ((k : Partition → Planned) → through d l s fits k ≡ refuse y) → Way d l s fits (part.Refused y)
+  open-to : (e : ℕ) → Opens (partitionOf d s e) l → fits ≡ true → Way d l s fits (part.Good e)
+
+way : (d : ℕ) (l : List ℕ) (s : ℕ) (fits : Bool) → Way d l s fits (gate d l s fits)
+unfolding gate through
+way d l s fits = go (partition d l s) refl fits refl
   where
-    is : (n : Refusal) → part.Refused n ≡ part.Refused y → number n ≤ 5 → number y ≤ 5
-    is n q m = let i : n ≡ y = cc in rw (← i) m
+    by : {a : Part} → Way d l s fits a → gate d l s fits ≡ a → Way d l s fits (gate d l s fits)
+    by w g = subst (Way d l s fits) (sym g) w
 
     inner : (x : ℕ) → partition d l s ≡ part.Good x → fits ≡ true
-        → (f : Found) → lowestMalformed (partitionOf d s x) (view l) ≡ f → (b : Bool) → sound (partitionOf d s x) (view l) ≡ b → number y ≤ 5
-    inner x p q (At f) r b z = is (Malformed f) (sym (rw (p, gate, q, r)) ∙ h) (omega arith)
-    inner x p q Nothing r false z = is Unsound (sym (rw (p, gate, q, r, z)) ∙ h) (omega arith)
-    inner x p q Nothing r true z =
-        let k : part.Good x ≡ part.Refused y = sym (rw (p, gate, q, r, z)) ∙ h in
-        let i : _≡_ {A = ℕ} 0 1 = cc in
-        absurd (omega arith)
+        → (f : Found) → lowestMalformed (partitionOf d s x) (view l) ≡ f → (b : Bool) → sound (partitionOf d s x) (view l) ≡ b → Way d l s fits (gate d l s fits)
+    inner x p q (At y) r b z = by (shut-by (Malformed y) (omega arith) (λ k. rw (p, through, q, r))) (rw (p, gate, q, r))
+    inner x p q Nothing r false z = by (shut-by Unsound (omega arith) (λ k. rw (p, through, q, r, z))) (rw (p, gate, q, r, z))
+    inner x p q Nothing r true z = by (open-to x (record { good = p; lies = lies d l s x p; clean = r; sound = z }) q) (rw (p, gate, q, r, z))
 
-    go : (p : Part) → partition d l s ≡ p → (u : Bool) → fits ≡ u → number y ≤ 5
-    go (part.Refused n) p u q = is n (sym (rw (p, gate)) ∙ h) (omega (arith, part-number d l s n p))
-    go (part.Good x) p false q = is BadBuffer (sym (rw (p, gate, q)) ∙ h) (omega arith)
+    go : (p : Part) → partition d l s ≡ p → (u : Bool) → fits ≡ u → Way d l s fits (gate d l s fits)
+    go (part.Refused n) p u q = by (shut-by n (omega (arith, part-number d l s n p)) (λ k. rw (p, through))) (rw (p, gate))
+    go (part.Good x) p false q = by (shut-by BadBuffer (omega arith) (λ k. rw (p, through, q))) (rw (p, gate, q))
     go (part.Good x) p true q = inner x p q (lowestMalformed (partitionOf d s x) (view l)) refl (sound (partitionOf d s x) (view l)) refl
 
-pub gate-opens : (d : ℕ) (l : List ℕ) (s : ℕ) (fits : Bool) (e : ℕ) → gate d l s fits ≡ part.Good e → (Opens (partitionOf d s e) l) × (fits ≡ true)
-gate-opens d l s fits e h = let x = enters d l s fits (λ π. refuse Unsound) e h in (x .opens, x .fit)
+unequal : (y : Refusal) (e : ℕ) {A : Type 0} → part.Refused y ≡ part.Good e → A
+unequal y e q = let z : _≡_ {A = ℕ} 0 1 = cc in absurd (omega arith)
+
+module _ (d : ℕ) (l : List ℕ) (s : ℕ) (fits : Bool) where
+  pub gate-opens : (e : ℕ) → gate d l s fits ≡ part.Good e → (Opens (partitionOf d s e) l) × (fits ≡ true)
+  gate-opens e h = go (way d l s fits) h
+    where
+      go : {p : Part} → Way d l s fits p → p ≡ part.Good e → (Opens (partitionOf d s e) l) × (fits ≡ true)
+      go (shut-by y n t) q = unequal y e q
+      go (open-to x o f) q = let i : x ≡ e = cc in (subst (λ (z : ℕ). Opens (partitionOf d s z) l) i o, f)
+
+  pub gate-number : (y : Refusal) → gate d l s fits ≡ part.Refused y → number y ≤ 5
+  gate-number y h = go (way d l s fits) h
+    where
+      go : {p : Part} → Way d l s fits p → p ≡ part.Refused y → number y ≤ 5
+      go (shut-by n m t) q = let i : n ≡ y = cc in subst (λ (z : Refusal). number z ≤ 5) i m
+      go (open-to x o f) q = unequal y x (sym q)
+
+  module _ (k : Partition → Planned) where
+    pub goes-through : (e : ℕ) → Opens (partitionOf d s e) l → fits ≡ true → through d l s fits k ≡ k (partitionOf d s e)
+    unfolding through
+    goes-through e o q = rw (o .good, through, q, o .clean, o .sound)
+
+    pub enters : (e : ℕ) → gate d l s fits ≡ part.Good e → Enters d l s fits k e
+    enters e h = let o = gate-opens e h in record { opens = o .0; fit = o .1; goes = goes-through e (o .0) (o .1) }
+
+    pub shut : (y : Refusal) → gate d l s fits ≡ part.Refused y → through d l s fits k ≡ refuse y
+    shut y h = go (way d l s fits) h
+      where
+        go : {p : Part} → Way d l s fits p → p ≡ part.Refused y → through d l s fits k ≡ refuse y
+        go (shut-by n m t) q = let i : n ≡ y = cc in t k ∙ ap refuse i
+        go (open-to x o f) q = unequal y x (sym q)

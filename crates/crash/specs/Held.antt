@@ -1,7 +1,6 @@
 -- An image of bytes with a good partition. Lawful stores keep it one, with the same partition, and do to its view what they say.
 use mathlib.Core.Path.{_≡_, refl, ap, ap₂, _∙_}
 use mathlib.Core.List.{List, [], _∷_, _++_}
-use mathlib.Core.Bool.{Bool, true, false}
 use Prim.Native.Nat.{ℕ, zero, suc, _+_, _-_, _*_, _/_, _≤_}
 use native.Mathlib.Omega.{arith}
 use lib.Dec.{leb, ltb}
@@ -17,7 +16,7 @@ use Rattle.frame.specs.Turn.{Each, each-map, after-each}
 use Rattle.base.specs.declared.Refusal.the-variants.{BadImage, BadPartition}
 use Rattle.volume.specs.Words.{partitionEndAt, partitionStartAt}
 use Rattle.volume.specs.Answers.{imageGood, partGood, endOf, partition}
-use Rattle.volume.specs.Reads.{Lies, lies}
+use Rattle.volume.specs.Reads.{Lies, lies, good-part}
 use Rattle.volume.specs.declared.Part.{Part}
 use Rattle.volume.specs.declared.Part.the-variants as part
 use Rattle.frame.specs.Fitting.{view-fits}
@@ -87,13 +86,7 @@ module _ {π : Partition} {l : List ℕ} (h : Held π l) where
   placed = record { low = lying .order; pos = lying .start; few = lying .few; fits = λ b. view-fits l b (h .bytes) }
 
   pub end-is : endOf π.drive (view l) π.s ≡ π.e
-  unfolding partition
-  end-is = go (imageGood π.drive (length l)) (partGood π.drive (length l / 528) (view l) π.s) (h .good)
-    where
-      go : (t u : Bool) → pick t (pick u (part.Good (endOf π.drive (view l) π.s)) (part.Refused BadPartition)) (part.Refused BadImage) ≡ part.Good π.e → endOf π.drive (view l) π.s ≡ π.e
-      go true true q = cc
-      go true false q = let z : _≡_ {A = ℕ} 0 1 = cc in absurd (omega arith)
-      go false u q = let z : _≡_ {A = ℕ} 0 1 = cc in absurd (omega arith)
+  end-is = good-part π.drive l π.s π.e (h .good) .end
 
   module _ (ss : List Store) (k : Each (Lawful π (view l)) ss) where
     fit : Whole (length l) ss

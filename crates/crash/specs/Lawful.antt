@@ -8,7 +8,6 @@ use native.Mathlib.Omega.{arith}
 use lib.Dec.{eqb}
 use lib.ListN.{length}
 use Rattle.base.specs.Tests.{pick}
-use Rattle.base.specs.Laws.{count-most}
 use Rattle.drive.specs.Address.{pda, lda}
 use Rattle.image.specs.View.{View, Rec, pair, put2}
 use Rattle.image.specs.Stores.{Fits}
@@ -31,6 +30,7 @@ use Rattle.frame.specs.Fitting.{put-fits, put2-fits, blank-fits, Words, data-fi
 use Rattle.volume.specs.Reads.{inside-of}
 use Rattle.frame.specs.Chain.{chain-short}
 use Rattle.crash.specs.FreeBlocks.{spot-in}
+use Rattle.base.specs.Sums.{count-both}
 
 -- a partition in its place on a drive, in a view of records
 pub record Placed (π : Partition) (v : View) : Type 0 where
@@ -135,7 +135,7 @@ module _ {π : Partition} {v : View} (at : Placed π v) where
 
       size-few : size π v f < 69552
       unfolding size span low
-      size-few = omega (arith, count-most (span (len v f)) (λ i. present π v f (low (len v f) + i)), span-end (len v f), wf-of π v f wf .short)
+      size-few = omega (arith, count-both (span (len v f)) (λ i. present π v f (low (len v f) + i)), span-end (len v f), wf-of π v f wf .short)
 
       pub destroy-lawful : Each (Lawful π v) (stores (destroyPlan π v f))
       unfolding stores destroyPlan destroyed topGoneStores lastGoneStores fibGone pibMore

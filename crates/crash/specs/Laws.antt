@@ -5,13 +5,12 @@ use mathlib.Core.Path.{_≡_, refl, sym, ap, ap₂, _∙_, subst, fun-ext}
 use mathlib.Core.Logic.{_≢_}
 use mathlib.Core.List.{List, []}
 use mathlib.Core.Bool.{Bool, true, false, true≢false}
-use Prim.Native.Nat.{ℕ, zero, suc, _+_, _-_, _*_, _/_, _%_, _<_}
+use Prim.Native.Nat.{ℕ, zero, suc, _+_, _-_, _*_, _/_, _<_}
 use native.Mathlib.Omega.{arith}
 use lib.Dec.{leb, ltb, eqb}
 use lib.ListN.{take, length}
-use borrow.Author.Tests.{eqb-true, eqb-false}
+use borrow.Author.Tests.{eqb-false}
 use Rattle.base.specs.Tests.{pick, count}
-use Rattle.base.specs.Laws.{every-at}
 use Rattle.image.specs.View.{View, Store, after, pair}
 use Rattle.image.specs.Image.{view, view-settles}
 use Rattle.image.specs.Stores.{stored}
@@ -23,10 +22,10 @@ use Rattle.volume.specs.Writes.{needs}
 use Rattle.frame.specs.Sound.{sound-clean, spare-block}
 use lib.Seq.{take-length}
 use Rattle.base.specs.declared.Refusal.{Refusal}
-use Rattle.base.specs.declared.Refusal.the-variants.{BadBuffer, Unsound, NothingFree, Full, NoCandidate, BadBlock, Malformed, BadImage, BadPartition}
+use Rattle.base.specs.declared.Refusal.the-variants.{BadBuffer, Unsound, NothingFree, Full, NoCandidate, BadBlock, Malformed}
 use Rattle.volume.specs.Words.{numberFreeAt}
 use Rattle.volume.specs.Keys.{reach}
-use Rattle.volume.specs.Answers.{imageGood, partGood, endOf, partition, lowestMalformed, checked, checkIn, checkClean, tallied, inPartition}
+use Rattle.volume.specs.Answers.{endOf, partition, lowestMalformed, checked, checkIn, checkClean, tallied, inPartition}
 use Rattle.volume.specs.Calls.{Call, create, write, describe, destroy, repair, Planned, refuse, finish, planned, through, unmarred, createIn, appendIn, writeIn, describeIn, destroyIn, repairIn, room}
 use Rattle.volume.specs.declared.Found.{Found}
 use Rattle.volume.specs.declared.Found.the-variants.{At, Nothing}
@@ -44,6 +43,7 @@ use Rattle.crash.specs.Needed.{free-unowned}
 use Rattle.crash.specs.Needed as counts
 use Rattle.crash.specs.Statement.{Repairs, Image, Proper, isDone, Accepted, stopped, whole, here}
 use Rattle.crash.specs.Theorem.{whole-kept, survivor-held, whole-view, stopped-held, cut-clean, mended-held, mended-view, mended-length}
+use Rattle.volume.specs.Reads.{whole-records}
 
 -- ---- a whole changing call, done or refused, keeps a partition sound
 
@@ -166,13 +166,7 @@ repair-accepted d s l b h =
     (ap (sound (partitionOf d s (y .end))) (mended-view (y .held) (y .clean) (y .spare)) ∙ sound-is (partitionOf d s (y .end)) (view l) (y .clean) (y .spare) (placed (y .held) .low) (placed (y .held) .pos))
 
 records : {π : Partition} {l : List ℕ} → Held π l → length l ≡ 528 * (length l / 528)
-unfolding partition imageGood
-records {π} {l} h = go (imageGood π.drive (length l)) refl (partGood π.drive (length l / 528) (view l) π.s) (h .good)
-  where
-    go : (t : Bool) → imageGood π.drive (length l) ≡ t → (u : Bool) → pick t (pick u (part.Good (endOf π.drive (view l) π.s)) (part.Refused BadPartition)) (part.Refused BadImage) ≡ part.Good π.e
-        → length l ≡ 528 * (length l / 528)
-    go true q u z = let k : length l % 528 ≡ 0 = eqb-true _ _ (every-at _ q 2) in omega arith
-    go false q u z = let y : _≡_ {A = ℕ} 0 1 = cc in absurd (omega arith)
+records {π} {l} h = whole-records π.drive l π.s π.e (h .good)
 
 -- repairing a repaired image again changes no byte
 pub repair-again : (d s : ℕ) (l : List ℕ) → Image l → isDone (planned d l s repair .outcome) ≡ true → whole d s (whole d s l repair) repair ≡ whole d s l repair

@@ -12,11 +12,12 @@ use Rattle.base.specs.Tests.{pick, count, those, occ, headOf, lastOf, above, be
 use Rattle.drive.specs.Address.{pda, pdaBlock, orNil}
 use Rattle.drive.specs.Laws.{pda-back, pda-pos}
 use Rattle.image.specs.View.{View, pair}
-use Rattle.base.specs.Laws.{both-of, both-left, both-right, count-most}
+use Rattle.base.specs.Laws.{both-of, both-left, both-right}
 use Rattle.volume.specs.Words.{nextAt, previousAt}
 use Rattle.volume.specs.Files.{chain, chained, within}
 use Rattle.volume.specs.declared.Partition.{Partition}
 use Rattle.volume.specs.Reads.{inside-of, of-inside}
+use Rattle.base.specs.Sums.{count-both}
 
 -- ---- the chain from a block, by its link
 
@@ -301,4 +302,4 @@ module _ (P : ℕ → Bool) where
       go false = omega arith
 
   pub length-most : (i k : ℕ) → length (those i k P) ≤ k
-  length-most i k = omega (arith, length-those i k, count-most k (λ j. P (i + j)))
+  length-most i k = omega (arith, length-those i k, count-both k (λ j. P (i + j)))

@@ -142,15 +142,18 @@ module _ (π : Partition) (v : View) (f r : ℕ) where
         go (inl q) = ap (inside π) (spot-new k q) ∙ fresh-in π v f r ok k q
         go (inr q) = ap (inside π) (spot-is (ok .file) k q) ∙ member π v f (ok .cand) (ok .file .formed) k q .ins
 
-    -- the new first free block is none of the file's, and the PIB is none
-    pub apart-first : (k : ℕ) → present′ π v f r k ≡ true → freeAt π v (needs π v f r) ≢ spot′ π v f r k
-    apart-first k p z = go (present-split k p)
+    -- an unowned block that is not taken is none of the file's, nor is the PIB
+    pub apart-free : (b : ℕ) → owned π v b ≡ false → ((i : ℕ) → i < needs π v f r → freeAt π v i ≢ b) → (k : ℕ) → present′ π v f r k ≡ true → spot′ π v f r k ≢ b
+    apart-free b o n k p z = go (present-split k p)
       where
         go : (isNew π v f r k ≡ true) ⊎ (present π v f k ≡ true) → ⊥
-        go (inl q) =
-            let x = placed π v f r (ok .file) k q in
-            ok .apart (x .i) (needs π v f r) (x .less) (omega arith) (sym (spot-at (ok .file) (x .i) (x .less)) ∙ ap (spot′ π v f r) (sym (x .is)) ∙ sym z)
-        go (inr q) = true≢false (sym (member-owned π v f (ok .cand) (ok .file .formed) k q) ∙ ap (owned π v) (sym (spot-is (ok .file) k q) ∙ sym z) ∙ ok .room (needs π v f r) (omega arith) .1)
+        go (inl h) =
+            let x = placed π v f r (ok .file) k h in
+            n (x .i) (x .less) (sym (spot-at (ok .file) (x .i) (x .less)) ∙ ap (spot′ π v f r) (sym (x .is)) ∙ z)
+        go (inr h) = true≢false (sym (member-owned π v f (ok .cand) (ok .file .formed) k h) ∙ ap (owned π v) (sym (spot-is (ok .file) k h) ∙ z) ∙ o)
+
+    pub apart-first : (k : ℕ) → present′ π v f r k ≡ true → freeAt π v (needs π v f r) ≢ spot′ π v f r k
+    apart-first k p z = apart-free _ (ok .room (needs π v f r) (omega arith) .1) (λ i l. ok .apart i (needs π v f r) l (omega arith)) k p (sym z)
 
     pub apart-pib : (k : ℕ) → present′ π v f r k ≡ true → π .s ≢ spot′ π v f r k
     apart-pib k p z = off-pib π (spot′ π v f r k) (spot-in k p) (sym z)

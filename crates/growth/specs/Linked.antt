@@ -46,29 +46,25 @@ module _ (π : Partition) (v : View) (f r : ℕ) (dat : Rec) (ok : Ready π v f 
   link-old j h = pick-same (eqb j 0) (λ _. refl) (λ q. ap (pda (π .drive)) (sym (spot-is π v f r (ok .file) j (h (eqb-false j 0 q)))))
 
   module _ (old : Links π v f) where
-    next-is : (k : ℕ) → present π W f k ≡ true → pair W (spot π W f k) nextAt ≡ link π W f (above π W f k)
-    next-is k p =
-        ap (λ (b : ℕ). pair W b nextAt) (written-spot π v f r ok tails W w k (there k p)) ∙ go (d .each k (there k p)) ∙ ap (link′ π v f r) (sym (written-above π v f r ok tails W w k))
-        ∙ sym (link-same (above π W f k) (λ n. above-next π W f k .hit n .0))
+    -- one link of k, at word i: to x in W, to y before, to z by the plan
+    side : (k i x y z : ℕ) → present π W f k ≡ true → two (grown π v f r dat k) i ≡ link′ π v f r z → (present π v f k ≡ true → pair v (spot π v f k) i ≡ link π v f y)
+        → (x ≢ 0 → present π W f x ≡ true) → (y ≢ 0 → present π v f y ≡ true) → x ≡ z → (Left π v f r dat ok W k → z ≡ y) → pair W (spot π W f k) i ≡ link π W f x
+    side k i x y z p g o hx hy e l =
+        ap (λ (b : ℕ). pair W b i) (written-spot π v f r ok tails W w k (there k p)) ∙ go (d .each k (there k p)) ∙ ap (link′ π v f r) (sym e) ∙ sym (link-same x hx)
       where
-        go : (W (spot′ π v f r k) ≡ grown π v f r dat k) ⊎ Left π v f r dat ok W k → pair W (spot′ π v f r k) nextAt ≡ link′ π v f r (above′ π v f r k)
-        go (inl a) = ap (λ (x : Rec). two x nextAt) a ∙ grown-next π v f r dat k
+        go : (W (spot′ π v f r k) ≡ grown π v f r dat k) ⊎ Left π v f r dat ok W k → pair W (spot′ π v f r k) i ≡ link′ π v f r z
+        go (inl a) = ap (λ (u : Rec). two u i) a ∙ g
         go (inr a) =
-            ap (λ (x : Rec). two x nextAt) (a .same) ∙ ap (λ (b : ℕ). pair v b nextAt) (spot-is π v f r (ok .file) k (a .old)) ∙ old .next k (a .old)
-            ∙ link-old (above π v f k) (λ n. above-next π v f k .hit n .0)
-            ∙ ap (link′ π v f r) (sym (a .over-it))
+            ap (λ (u : Rec). two u i) (a .same) ∙ ap (λ (b : ℕ). pair v b i) (spot-is π v f r (ok .file) k (a .old)) ∙ o (a .old)
+            ∙ link-old y hy ∙ ap (link′ π v f r) (sym (l a))
+
+    next-is : (k : ℕ) → present π W f k ≡ true → pair W (spot π W f k) nextAt ≡ link π W f (above π W f k)
+    next-is k p = side k nextAt _ (above π v f k) (above′ π v f r k) p (grown-next π v f r dat k) (old .next k)
+        (λ n. above-next π W f k .hit n .0) (λ n. above-next π v f k .hit n .0) (written-above π v f r ok tails W w k) (λ a. a .over-it)
 
     prev-is : (k : ℕ) → present π W f k ≡ true → pair W (spot π W f k) previousAt ≡ link π W f (below π W f k)
-    prev-is k p =
-        ap (λ (b : ℕ). pair W b previousAt) (written-spot π v f r ok tails W w k (there k p)) ∙ go (d .each k (there k p)) ∙ ap (link′ π v f r) (sym (written-below π v f r ok tails W w k))
-        ∙ sym (link-same (below π W f k) (λ n. below-prev π W f k .hit n .0))
-      where
-        go : (W (spot′ π v f r k) ≡ grown π v f r dat k) ⊎ Left π v f r dat ok W k → pair W (spot′ π v f r k) previousAt ≡ link′ π v f r (below′ π v f r k)
-        go (inl a) = ap (λ (x : Rec). two x previousAt) a ∙ grown-prev π v f r dat k
-        go (inr a) =
-            ap (λ (x : Rec). two x previousAt) (a .same) ∙ ap (λ (b : ℕ). pair v b previousAt) (spot-is π v f r (ok .file) k (a .old)) ∙ old .prev k (a .old)
-            ∙ link-old (below π v f k) (λ n. below-prev π v f k .hit n .0)
-            ∙ ap (link′ π v f r) (sym (a .under-it))
+    prev-is k p = side k previousAt _ (below π v f k) (below′ π v f r k) p (grown-prev π v f r dat k) (old .prev k)
+        (λ n. below-prev π W f k .hit n .0) (λ n. below-prev π v f k .hit n .0) (written-below π v f r ok tails W w k) (λ a. a .under-it)
 
     tail-is : (k i : ℕ) → k < home → present π W f k ≡ true → i < 128 → len W f ≤ first (child k (slotAt i)) → pair W (spot π W f k) (slotAt i) ≡ 0
     tail-is k i l p m h =

@@ -3,7 +3,7 @@ use mathlib.Core.Path.{_≡_, refl, sym, ap, _∙_, subst}
 use mathlib.Core.Logic.{_⊎_, inl, inr, _≢_}
 use mathlib.Core.List.{List}
 use mathlib.Core.Bool.{Bool, true, false, true≢false}
-use Prim.Native.Nat.{ℕ, _≤_, _<_}
+use Prim.Native.Nat.{ℕ, _<_}
 use native.Mathlib.Omega.{arith}
 use lib.Dec.{eqb}
 use lib.ListN.{length}
@@ -22,7 +22,7 @@ use Rattle.frame.specs.FreeChain.{Links, links-of, sound-of, links-others}
 use Rattle.frame.specs.Drawn.{Taken, Drawn, left, drawn-free}
 use Rattle.growth.specs.Ready.{Tails, Ready, sound-tails}
 use Rattle.growth.specs.Path.{placed, new-at, fresh-at, fresh-free}
-use Rattle.growth.specs.Afterwards.{present-new, present-old, present-split, spot-new, spot-is}
+use Rattle.growth.specs.Afterwards.{present-new, present-old, present-split, spot-new, spot-is, apart-free}
 use Rattle.growth.specs.Written.{Written, written-present, written-spot, written-formed}
 use Rattle.growth.specs.Before.{Order}
 use Rattle.growth.specs.Done.{Done, done-written}
@@ -113,20 +113,11 @@ module _ (π : Partition) (v : View) (f r : ℕ) (dat : Rec) (ok : Ready π v f 
   drawn = record {
     first = first-rec π v f r dat ok fr od;
     pib = pib-rec π v f r dat ok fr od;
-    kept = λ b i o n. other-block π v f r dat ok fr od b (apart b o n) (n (needs π v f r) (omega arith)) (λ z. off-pib π b i (sym z));
+    kept = λ b i o n. other-block π v f r dat ok fr od b (apart-free π v f r ok b o (λ j l. n j (omega arith))) (n (needs π v f r) (omega arith)) (λ z. off-pib π b i (sym z));
     old = owned-old;
     new = λ i l. ap (owned π W) (sym (fresh-at π v f r (ok .file) i l)) ∙ owned-new (over r i) (new-at π v f r (ok .file) i l);
     back = owned-back;
   }
-    where
-      apart : (b : ℕ) → owned π v b ≡ false → ((i : ℕ) → i ≤ needs π v f r → freeAt π v i ≢ b) → (k : ℕ) → present′ π v f r k ≡ true → spot′ π v f r k ≢ b
-      apart b o n k p z = go (present-split π v f r k p)
-        where
-          go : (isNew π v f r k ≡ true) ⊎ (present π v f k ≡ true) → ⊥
-          go (inl h) =
-              let x = placed π v f r (ok .file) k h in
-              n (x .i) (omega (arith, x .less)) (sym (fresh-at π v f r (ok .file) (x .i) (x .less)) ∙ ap (fresh π v f r) (sym (x .is)) ∙ sym (spot-new π v f r k h) ∙ z)
-          go (inr h) = true≢false (sym (member-owned π v f (ok .cand) (ok .file .formed) k h) ∙ ap (owned π v) (sym (spot-is π v f r (ok .file) k h) ∙ z) ∙ o)
 
   -- ---- every file
 

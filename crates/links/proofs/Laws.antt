@@ -1,7 +1,7 @@
 -- What the code that reads a file's links has of it: where no candidate is malformed every candidate is a file that can be read; which keys
 -- a file has and which stands behind and before one; who owns a block. Assumes nothing.
 use mathlib.Core.Path.{_≡_, sym, ap, _∙_}
-use mathlib.Core.Logic.{_⊎_, inl, inr, _≢_}
+use mathlib.Core.Logic.{_≢_}
 use mathlib.Core.List.{List}
 use mathlib.Core.Bool.{Bool, true, false}
 use Prim.Native.Nat.{ℕ, _+_, _≤_, _<_}
@@ -19,7 +19,7 @@ use Rattle.volume.specs.KeyLaws.{low-pos}
 use Rattle.volume.specs.Files.{candidate, isFile, len, spot, present, above, below, least, link, fileOf, key, owned}
 use Rattle.volume.specs.declared.Partition.{Partition}
 use Rattle.volume.specs.Index.{present-low, present-high}
-use Rattle.volume.specs.Closed.{hasKey, nextKey, prevKey, has-only, present-closed, above-closed, below-closed, least-closed}
+use Rattle.volume.specs.Closed.{hasKey, nextKey, prevKey, has-pointers, present-closed, above-closed, below-closed, least-closed}
 use Rattle.volume.specs.Answers.{Unmarred}
 use Rattle.volume.specs.Reads.{Lies, candidate-in}
 use Rattle.volume.specs.Steps.{both-no, both-no-2}
@@ -49,11 +49,7 @@ module _ {π : Partition} {l : List ℕ} {f : ℕ} (o : Opened π l f) (k : ℕ)
 
   -- a pointer block names data
   pub key-pointer : k < home → k ≤ 288
-  key-pointer h = go (has-only (len (view l) f) (opened-few o) (present π (view l) f) (present-closed π (view l) f (o .formed)) k p)
-    where
-      go : ((low (len (view l) f) ≤ k) × (k < 289)) ⊎ ((home ≤ k) × (k ≤ home + len (view l) f)) → k ≤ 288
-      go (inl x) = omega (arith, x .1)
-      go (inr x) = absurd (omega (arith, x .0))
+  key-pointer = has-pointers (len (view l) f) (opened-few o) (present π (view l) f) (present-closed π (view l) f (o .formed)) k p
 
 module _ {π : Partition} {l : List ℕ} {f n : ℕ} (o : Opened π l f) (q : n ≡ len (view l) f) where
   pub len-few : n ≤ 4160

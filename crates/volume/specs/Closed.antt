@@ -16,7 +16,7 @@ use Rattle.volume.specs.Keys.{home, child, first, low}
 use Rattle.volume.specs.KeyLaws.{row-direct, row-data, row-ptr, asked-closed, closed-ptr, first-data, low-home, low-pos, child-first}
 use Rattle.volume.specs.Files.{len, spot, present, wellFormed, above, below, least, size}
 use Rattle.volume.specs.declared.Partition.{Partition}
-use Rattle.volume.specs.Index.{wf-of, here-of, present-home, spot-step, entry-at, entry-fib}
+use Rattle.volume.specs.Index.{wf-of, here-of, present-home, spot-step, entry-at, entry-fib, or-of}
 use Rattle.volume.specs.Order.{Next, Prev, next-one, prev-one, above-next, below-prev, least-is, size-is, count-split}
 
 -- a file with n blocks has key k; the key behind and before one that it has, or 0; how many keys it has
@@ -62,20 +62,12 @@ low-two n = go (ltb 64 n) refl
 
 module _ (n : ℕ) (short : n ≤ 4160) (P : ℕ → Bool) (is : (k : ℕ) → P k ≡ hasKey n k) where
   has-data : (k : ℕ) → home ≤ k → k ≤ home + n → P k ≡ true
-  has-data k a b = is k ∙ go (eqb k home) refl
-    where
-      go : (t : Bool) → eqb k home ≡ t → (t || ltb (first k) n) ≡ true
-      go true q = refl
-      go false q = let m = eqb-false k home q in lt-ltb (first k) n (omega (arith, first-data k (omega arith)))
+  has-data k a b = is k ∙ or-of (eqb k home) _ (λ q. let m = eqb-false k home q in lt-ltb (first k) n (omega (arith, first-data k (omega arith))))
 
   has-pointer : (k : ℕ) → low n ≤ k → k < 289 → P k ≡ true
-  has-pointer k a b = is k ∙ go (eqb k home) refl
-    where
-      go : (t : Bool) → eqb k home ≡ t → (t || ltb (first k) n) ≡ true
-      go true q = refl
-      go false q = lt-ltb (first k) n (closed-ptr n k a b)
+  has-pointer k a b = is k ∙ or-of (eqb k home) _ (λ q. lt-ltb (first k) n (closed-ptr n k a b))
 
-  pub has-only : (k : ℕ) → P k ≡ true → ((low n ≤ k) × (k < 289)) ⊎ ((home ≤ k) × (k ≤ home + n))
+  has-only : (k : ℕ) → P k ≡ true → ((low n ≤ k) × (k < 289)) ⊎ ((home ≤ k) × (k ≤ home + n))
   has-only k h = go (eqb k home) refl (sym (is k) ∙ h)
     where
       go : (t : Bool) → eqb k home ≡ t → (t || ltb (first k) n) ≡ true → ((low n ≤ k) × (k < 289)) ⊎ ((home ≤ k) × (k ≤ home + n))
@@ -85,6 +77,14 @@ module _ (n : ℕ) (short : n ≤ 4160) (P : ℕ → Bool) (is : (k : ℕ) → P
           at : ((low n ≤ k) × (k < 289)) ⊎ ((home ≤ k) × (k < 292 + n)) → ((low n ≤ k) × (k < 289)) ⊎ ((home ≤ k) × (k ≤ home + n))
           at (inl x) = inl x
           at (inr x) = inr (x .0, omega (arith, x .1))
+
+  -- one below the FIB's is a pointer block's, of those that the FIB names
+  pub has-pointers : (k : ℕ) → P k ≡ true → k < home → k ≤ 288
+  has-pointers k h l = go (has-only k h)
+    where
+      go : ((low n ≤ k) × (k < 289)) ⊎ ((home ≤ k) × (k ≤ home + n)) → k ≤ 288
+      go (inl x) = omega (arith, x .1)
+      go (inr x) = absurd (omega (arith, x .0))
 
   has-not : (k : ℕ) → (k < low n) ⊎ (((289 ≤ k) × (k < home)) ⊎ (home + n < k)) → P k ≡ false
   has-not k s = never _ (λ q. no s (has-only k q))

@@ -31,35 +31,34 @@ pub record Prev (P : ℕ → Bool) (k j : ℕ) : Type 0 where
 clash : {A : Type 0} {t : Bool} → t ≡ true → t ≡ false → A
 clash p q = absurd (true≢false (sym p ∙ q))
 
+-- numbers that are 0 together, and of which neither comes before the other
+only : (i j : ℕ) → (i ≢ 0 → j ≡ 0 → ⊥) → (j ≢ 0 → i ≡ 0 → ⊥) → (i ≢ 0 → j ≢ 0 → i < j → ⊥) → (i ≢ 0 → j ≢ 0 → j < i → ⊥) → i ≡ j
+only i j x y l g = go (eqb i 0) refl (eqb j 0) refl
+  where
+    go : (t : Bool) → eqb i 0 ≡ t → (u : Bool) → eqb j 0 ≡ u → i ≡ j
+    go true p true q = eqb-true i 0 p ∙ sym (eqb-true j 0 q)
+    go true p false q = absurd (y (eqb-false j 0 q) (eqb-true i 0 p))
+    go false p true q = absurd (x (eqb-false i 0 p) (eqb-true j 0 q))
+    go false p false q =
+        let n = eqb-false i 0 p in
+        let m = eqb-false j 0 q in
+        omega (arith, ltb-false i j (never _ (λ z. l n m (ltb-true i j z))), ltb-false j i (never _ (λ z. g n m (ltb-true j i z))))
+
 module _ (P : ℕ → Bool) where
   -- there is one such
   pub next-one : (k i j : ℕ) → Next P k i → Next P k j → i ≡ j
-  next-one k i j a b = go (eqb i 0) refl (eqb j 0) refl
-    where
-      go : (t : Bool) → eqb i 0 ≡ t → (u : Bool) → eqb j 0 ≡ u → i ≡ j
-      go true p true q = eqb-true i 0 p ∙ sym (eqb-true j 0 q)
-      go true p false q = let h = b .hit (eqb-false j 0 q) in clash (h .0) (a .none j (h .1) (λ n. absurd (n (eqb-true i 0 p))))
-      go false p true q = let h = a .hit (eqb-false i 0 p) in clash (h .0) (b .none i (h .1) (λ n. absurd (n (eqb-true j 0 q))))
-      go false p false q = at (ltb i j) refl (ltb j i) refl
-        where
-          at : (t : Bool) → ltb i j ≡ t → (u : Bool) → ltb j i ≡ u → i ≡ j
-          at true x u y = let h = a .hit (eqb-false i 0 p) in clash (h .0) (b .none i (h .1) (λ _. ltb-true i j x))
-          at false x true y = let h = b .hit (eqb-false j 0 q) in clash (h .0) (a .none j (h .1) (λ _. ltb-true j i y))
-          at false x false y = omega (arith, ltb-false i j x, ltb-false j i y)
+  next-one k i j a b = only i j
+      (λ n z. let h = a .hit n in clash (h .0) (b .none i (h .1) (λ m. absurd (m z))))
+      (λ n z. let h = b .hit n in clash (h .0) (a .none j (h .1) (λ m. absurd (m z))))
+      (λ n m l. let h = a .hit n in clash (h .0) (b .none i (h .1) (λ _. l)))
+      (λ n m l. let h = b .hit m in clash (h .0) (a .none j (h .1) (λ _. l)))
 
   pub prev-one : (k i j : ℕ) → Prev P k i → Prev P k j → i ≡ j
-  prev-one k i j a b = go (eqb i 0) refl (eqb j 0) refl
-    where
-      go : (t : Bool) → eqb i 0 ≡ t → (u : Bool) → eqb j 0 ≡ u → i ≡ j
-      go true p true q = eqb-true i 0 p ∙ sym (eqb-true j 0 q)
-      go true p false q = let n = eqb-false j 0 q in let h = b .hit n in clash (h .0) (a .none j (omega arith) (h .1) (λ n. absurd (n (eqb-true i 0 p))))
-      go false p true q = let n = eqb-false i 0 p in let h = a .hit n in clash (h .0) (b .none i (omega arith) (h .1) (λ n. absurd (n (eqb-true j 0 q))))
-      go false p false q = at (ltb i j) refl (ltb j i) refl
-        where
-          at : (t : Bool) → ltb i j ≡ t → (u : Bool) → ltb j i ≡ u → i ≡ j
-          at true x u y = let n = eqb-false j 0 q in let h = b .hit n in clash (h .0) (a .none j (omega arith) (h .1) (λ _. ltb-true i j x))
-          at false x true y = let n = eqb-false i 0 p in let h = a .hit n in clash (h .0) (b .none i (omega arith) (h .1) (λ _. ltb-true j i y))
-          at false x false y = omega (arith, ltb-false i j x, ltb-false j i y)
+  prev-one k i j a b = only i j
+      (λ n z. let h = a .hit n in clash (h .0) (b .none i (omega arith) (h .1) (λ m. absurd (m z))))
+      (λ n z. let h = b .hit n in clash (h .0) (a .none j (omega arith) (h .1) (λ m. absurd (m z))))
+      (λ n m l. let h = b .hit m in clash (h .0) (a .none j (omega arith) (h .1) (λ _. l)))
+      (λ n m l. let h = a .hit n in clash (h .0) (b .none i (omega arith) (h .1) (λ _. l)))
 
   -- above and below are inverse on numbers that pass
   pub next-prev : (k j : ℕ) → 0 < k → P k ≡ true → j ≢ 0 → Next P k j → Prev P j k

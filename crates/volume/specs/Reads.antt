@@ -4,7 +4,7 @@ use mathlib.Core.Path.{_≡_, refl, sym, ap, _∙_, subst}
 use mathlib.Core.Logic.{_≢_}
 use mathlib.Core.List.{List}
 use mathlib.Core.Bool.{Bool, true, false}
-use Prim.Native.Nat.{ℕ, zero, suc, _+_, _-_, _*_, _/_, _≤_, _<_}
+use Prim.Native.Nat.{ℕ, zero, suc, _+_, _-_, _*_, _/_, _≤_, _<_, _%_}
 use native.Mathlib.Omega.{arith}
 use lib.ListN.{length}
 use lib.Dec.{eqb}
@@ -82,27 +82,45 @@ pub image-blocks : (d n : ℕ) → imageGood d n ≡ true → (528 * (n / 528) �
 unfolding imageGood
 image-blocks d n h = (omega arith, (let q : n / 528 ≤ blocks d = leb-true _ _ (every-at _ h 3) in omega (arith, blocks-few d)))
 
-pub lies : (d : ℕ) (l : List ℕ) (s e : ℕ) → partition d l s ≡ Good e → Lies (partitionOf d s e) l
-unfolding partition imageGood partGood
-lies d l s e h = go (imageGood d (length l)) refl (partGood d (length l / 528) (view l) s) refl
+-- a good partition passed its tests, and ends where the PIB says
+pub record GoodPart (d : ℕ) (l : List ℕ) (s e : ℕ) : Type 0 where
+  pub image : imageGood d (length l) ≡ true
+  pub part : partGood d (length l / 528) (view l) s ≡ true
+  pub end : endOf d (view l) s ≡ e
+
+pub good-part : (d : ℕ) (l : List ℕ) (s e : ℕ) → partition d l s ≡ Good e → GoodPart d l s e
+unfolding partition
+good-part d l s e h = go (imageGood d (length l)) refl (partGood d (length l / 528) (view l) s) refl h
   where
-    go : (t : Bool) → imageGood d (length l) ≡ t → (u : Bool) → partGood d (length l / 528) (view l) s ≡ u → Lies (partitionOf d s e) l
-    go true i true p =
-        let q = rw (i, p, partition) at h in
-        let z : endOf d (view l) s ≡ e = cc in
-        let b = image-blocks d (length l) i in
-        let m : endOf d (view l) s < length l / 528 = ltb-true _ _ (every-at _ p 5) in
-        let k : endOf d (view l) s - s + 1 ≤ 32767 = leb-true _ _ (every-at _ p 6) in
-        record {
-          known = leb-true _ _ (every-at _ i 0);
-          start = leb-true _ _ (every-at _ p 0);
-          order = (let o : s < endOf d (view l) s = ltb-true _ _ (every-at _ p 4) in omega arith);
-          within = omega arith;
-          few = omega arith;
-          small = omega arith;
-        }
-    go true i false p = let q = rw (i, p, partition) at h in let z : _≡_ {A = ℕ} 0 1 = cc in absurd (omega arith)
-    go false i u p = let q = rw (i, partition) at h in let z : _≡_ {A = ℕ} 0 1 = cc in absurd (omega arith)
+    go : (t : Bool) → imageGood d (length l) ≡ t → (u : Bool) → partGood d (length l / 528) (view l) s ≡ u
+        → pick t (pick u (Good (endOf d (view l) s)) (Refused BadPartition)) (Refused BadImage) ≡ Good e → GoodPart d l s e
+    go true i true p h = record { image = i; part = p; end = cc }
+    go true i false p h = let z : _≡_ {A = ℕ} 0 1 = cc in absurd (omega arith)
+    go false i u p h = let z : _≡_ {A = ℕ} 0 1 = cc in absurd (omega arith)
+
+-- its image is a row of records
+pub whole-records : (d : ℕ) (l : List ℕ) (s e : ℕ) → partition d l s ≡ Good e → length l ≡ 528 * (length l / 528)
+unfolding imageGood
+whole-records d l s e h = let k : length l % 528 ≡ 0 = eqb-true _ _ (every-at _ (good-part d l s e h .image) 2) in omega arith
+
+pub lies : (d : ℕ) (l : List ℕ) (s e : ℕ) → partition d l s ≡ Good e → Lies (partitionOf d s e) l
+unfolding imageGood partGood
+lies d l s e h =
+    let g = good-part d l s e h in
+    let i = g .image in
+    let p = g .part in
+    let z = g .end in
+    let b = image-blocks d (length l) i in
+    let m : endOf d (view l) s < length l / 528 = ltb-true _ _ (every-at _ p 5) in
+    let k : endOf d (view l) s - s + 1 ≤ 32767 = leb-true _ _ (every-at _ p 6) in
+    record {
+      known = leb-true _ _ (every-at _ i 0);
+      start = leb-true _ _ (every-at _ p 0);
+      order = (let o : s < endOf d (view l) s = ltb-true _ _ (every-at _ p 4) in omega arith);
+      within = omega arith;
+      few = omega arith;
+      small = omega arith;
+    }
 
 -- what holds of what comes in a good partition, and of what comes by 1 and by 2, holds of the call
 pub in-part : {A : Type 0} (P : A → Type 0) (otherwise : Refusal → A) → P (otherwise BadImage) → P (otherwise BadPartition) → (d : ℕ) (l : List ℕ) (s : ℕ) (k : ℕ → A)
