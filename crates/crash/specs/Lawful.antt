@@ -7,7 +7,6 @@ use native.Mathlib.Omega.{arith}
 use Rattle.drive.specs.Address.{pda, lda}
 use Rattle.image.specs.View.{View, Rec, pair}
 use Rattle.image.specs.Stores.{Fits}
-use Rattle.volume.specs.Keys.{low}
 use Rattle.volume.specs.Files.{inside}
 use Rattle.volume.specs.declared.Partition.{Partition}
 use Rattle.volume.specs.Plans.{newFirst, pibLess, asFiller}
