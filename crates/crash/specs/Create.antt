@@ -26,6 +26,10 @@ use Rattle.crash.specs.Whole.{W-owned, keeps-sound}
 use Rattle.crash.specs.Fresh.{fresh-cand, fresh-only, fresh-wf, fresh-links}
 use Rattle.volume.specs.Reads.{off-pib}
 use Rattle.frame.specs.Soft.{soft-links}
+use Rattle.crash.specs.Lawful.{Placed, Lawful, pda-fits, lda-fits, le-end, inner, first-lawful, less-lawful}
+use Rattle.frame.specs.Fitting.{put-fits, put2-fits, blank-fits}
+use Rattle.volume.specs.Words.{fillerAt}
+use Rattle.drive.specs.Address.{lda}
 
 -- the new first free block: links and filler alone
 first-links : (d : ℕ) (v : View) (g w : ℕ) → w ≢ 3 → w ≢ 6 → w ≢ 7 → newFirst d v g w ≡ v g w
@@ -63,6 +67,18 @@ module _ (π : Partition) (v : View) (ok : sound π v ≡ true) (room : 1 < leng
 
   n≢a : freeAt π v 1 ≢ freeAt π v 0
   n≢a z = differ π v ok 2 room 0 1 (omega arith) (omega arith) (sym z)
+
+  pub create-lawful : Placed π v → kind < 65536 → Each (Lawful π v) (stores (createPlan π v kind))
+  unfolding stores createPlan takenStores freshFib
+  create-lawful at k = (
+    inner at a-in (put2-fits 0 _ (omega arith) (pda-fits at a (le-end at a a-in)) (put-fits 2 65535 (omega arith) (omega arith) (put-fits 3 (v a fillerAt) (omega arith) (at .fits a .small 3)
+        (put-fits 256 kind (omega arith) k (put-fits 257 1 (omega arith) (omega arith) (put-fits 258 65535 (omega arith) (omega arith)
+        (put2-fits 259 _ (omega arith) la (put-fits 261 65535 (omega arith) (omega arith) (put2-fits 262 _ (omega arith) la blank-fits))))))))),
+    (first-lawful at n n-in, (less-lawful at n 1 n-in, tt)),
+  )
+    where
+      la : lda (π .drive) (freeAt π v 0) < 4294967296
+      la = lda-fits at a (le-end at a a-in)
 
   create-turn : Turn π v D (freeAt π v 0)
   unfolding after

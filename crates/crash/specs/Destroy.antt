@@ -3,7 +3,7 @@ use mathlib.Core.Path.{_≡_, refl, sym, ap, ap₂, _∙_, subst}
 use mathlib.Core.Logic.{inr, _≢_}
 use mathlib.Core.List.{List, [], _∷_, _++_}
 use mathlib.Core.Bool.{Bool, true, false, true≢false}
-use Prim.Native.Nat.{ℕ, _+_, _*_, _≤_, _<_}
+use Prim.Native.Nat.{ℕ, _+_, _*_, _≤_, _<_, _-_}
 use native.Mathlib.Omega.{arith}
 use lib.Dec.{eqb}
 use lib.ListN.{length-append}
@@ -12,15 +12,15 @@ use Rattle.base.specs.Tests.{pick, both, occ}
 use Rattle.drive.specs.Address.{pda, pdaBlock, lda}
 use Rattle.drive.specs.Laws.{pda-pos}
 use Rattle.image.specs.View.{upd-same, upd-other, View, Rec, Store, after, upd, pair, put2}
-use Rattle.volume.specs.Words.{nextAt, previousAt}
-use Rattle.volume.specs.Keys.{home}
+use Rattle.volume.specs.Words.{nextAt, previousAt, numberFreeAt}
+use Rattle.volume.specs.Keys.{home, span, low}
 use Rattle.volume.specs.Files.{isLda, inside, candidate, len, end, spot, present, least, size, wellFormed, fileOf, owned, free, freeHead, sound}
 use Rattle.volume.specs.declared.Partition.{Partition}
 use Rattle.volume.specs.Index.{spot-home, present-home, wf-of, own, file-candidate, file-back, pib-not}
 use Rattle.volume.specs.Order.{least-present, least-most}
 use Rattle.volume.specs.Frame.{Clean}
 use Rattle.volume.specs.Plans.{st, stores, destroyPlan, destroyed, gone, topGone, fibGone, topGoneStores, lastGoneStores, pibMore, freeTail}
-use Rattle.frame.specs.Soft.{headed, headed-is, headed-zero, soft-links}
+use Rattle.frame.specs.Soft.{headed, headed-is, headed-zero, soft-links, cand-in}
 use Rattle.frame.specs.Reading.{two, put2-off, put2-here}
 use Rattle.frame.specs.Repair.{lda-self}
 use Rattle.frame.specs.Turn.{Each, each-append, each-pick, after-each, after-append, after-miss, Calm, calm-soft, calm-free, calm-pib, Turn, turn-free, turn-decided, turn-keeps}
@@ -31,11 +31,16 @@ use Rattle.frame.specs.Taking.{occ-append}
 use Rattle.frame.specs.Listed.{blocks, blocks-length, within-blocks, last-blocks}
 use Rattle.crash.specs.Whole.{W-owned, keeps-sound}
 use Rattle.crash.specs.FreeBlocks.{first-free, first-in, own-file, free≢spot, free≢fib, spot-unique, spot-in}
-use Rattle.crash.specs.Gone.{gone-zero, top-zero, fib-zero, gone-word, top-word, fib-word, top-prev, fib-prev}
+use Rattle.crash.specs.Gone.{gone-zero, top-zero, fib-zero, gone-word, top-word, fib-word, top-prev, fib-prev, gone-fits, top-fits, fib-fits}
 use Rattle.frame.specs.Joined.{within-both, head-both, last-both}
 use Rattle.crash.specs.Returned.{Behind, occ-blocks, ways}
 use Rattle.volume.specs.Reads.{off-pib}
 use Rattle.base.specs.Laws.{never}
+use Rattle.crash.specs.Lawful.{Placed, Lawful, pda-fits, lda-fits, le-end, inner, at-pib}
+use Rattle.frame.specs.Fitting.{put2-fits}
+use Rattle.frame.specs.Chain.{chain-short}
+use Rattle.base.specs.Sums.{count-both}
+use Rattle.volume.specs.KeyLaws.{span-end}
 
 module _ (π : Partition) (v : View) (ok : sound π v ≡ true) (f : ℕ) (cf : candidate π v f ≡ true) where
   abbrev alone : Bool
@@ -150,6 +155,33 @@ module _ (π : Partition) (v : View) (ok : sound π v ≡ true) (f : ℕ) (cf : 
         (calm-soft π D (soft-links π D tl (v tl) (upd-other v f R tl (free≢fib π v ok f cf tl tl-occ)) (λ w _ n4 n5 _ _. put2-off 4 (pda (π .drive) top) (v tl) w n4 n5)))
         (calm-pib π D);
   }
+
+  -- ---- its stores are lawful
+
+  module _ (at : Placed π v) where
+    tail-in : inside π tl ≡ true
+    tail-in = free-in π v ok tl tl-occ
+
+    tail-small : pda (π .drive) tl < 4294967296
+    tail-small = pda-fits at tl (le-end at tl tail-in)
+
+    number-few : pair v (π .s) numberFreeAt < 69552
+    unfolding free
+    number-few = omega (arith, sound-number π v ok, chain-short π v (π .e - π .s) a, at .few)
+
+    size-few : size π v f < 69552
+    unfolding size span low
+    size-few = omega (arith, count-both (span (len v f)) (λ i. present π v f (low (len v f) + i)), span-end (len v f), wf-of π v f wf .short)
+
+    pub destroy-lawful : Each (Lawful π v) (stores (destroyPlan π v f))
+    unfolding stores destroyPlan destroyed pibMore
+    destroy-lawful = (
+      inner at (cand-in π v f cf) (fib-fits (π .drive) v a tl (at .fits) tail-small f alone),
+      each-rest (Lawful π v) (λ _. inner at (mine _ lp) (top-fits (π .drive) v a tl (at .fits) tail-small top)) (λ _. inner at (mine _ ep) (gone-fits (π .drive) v a tl (at .fits) last))
+          (inner at tail-in (put2-fits 4 _ (omega arith) (pda-fits at top (le-end at top (mine _ lp))) (at .fits tl)))
+          (at-pib at (put2-fits 10 _ (omega arith) (lda-fits at last (le-end at last (mine _ ep))) (put2-fits 12 (pair v (π .s) numberFreeAt + size π v f) (omega arith) (omega (arith, number-few, size-few)) (at .fits (π .s))))
+          (λ w l. put2-off 10 _ _ w (λ z. omega arith) (λ z. omega arith) ∙ put2-off 12 _ (v (π .s)) w (λ z. omega arith) (λ z. omega arith))),
+    )
 
   -- ---- what the whole call leaves
 

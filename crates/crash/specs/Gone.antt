@@ -1,12 +1,14 @@
--- The records that destroy stores: no serial, and the old links, but for the previous link of the first block.
+-- The records that destroy stores: no serial, and the old links, but for the previous link of the first block; words that fit.
 use mathlib.Core.Path.{_≡_, refl, sym, ap₂, _∙_}
 use mathlib.Core.Bool.{Bool, true, false, true≢false}
 use Prim.Native.Nat.{ℕ, _+_, _*_, _≤_, _<_}
 use native.Mathlib.Omega.{arith}
 use Rattle.drive.specs.Address.{pda}
 use Rattle.image.specs.View.{View}
-use Rattle.volume.specs.Plans.{gone, topGone, fibGone}
+use Rattle.volume.specs.Plans.{gone, topGone, fibGone, asFiller}
 use Rattle.frame.specs.Reading.{two, put-off, put2-off, put2-here}
+use Rattle.frame.specs.Fitting.{put-fits, put2-fits}
+use Rattle.image.specs.Stores.{Fits}
 
 -- on drive d, FreeHead naming h and FreeTail tl
 module _ (d : ℕ) (v : View) (h tl : ℕ) where
@@ -46,3 +48,19 @@ module _ (d : ℕ) (v : View) (h tl : ℕ) where
   unfolding fibGone
   fib-prev f true q = top-prev f
   fib-prev f false q = absurd (true≢false (sym q))
+
+  -- they are words that fit
+  module _ (fits : (b : ℕ) → Fits (v b)) where
+    pub gone-fits : (b : ℕ) → Fits (gone d v h b)
+    unfolding gone
+    gone-fits b = put2-fits 0 0 (omega arith) (omega arith) (put-fits 3 (asFiller h) (omega arith) (omega arith) (fits b))
+
+    module _ (small : pda d tl < 4294967296) where
+      pub top-fits : (b : ℕ) → Fits (topGone d v h tl b)
+      unfolding topGone
+      top-fits b = put2-fits 6 _ (omega arith) small (gone-fits b)
+
+      pub fib-fits : (f : ℕ) (alone : Bool) → Fits (fibGone d v h tl f alone)
+      unfolding fibGone
+      fib-fits f true = top-fits f
+      fib-fits f false = put2-fits 0 0 (omega arith) (omega arith) (fits f)

@@ -7,23 +7,23 @@ pub mod Laws
 pub mod Answering
 -- a law of repair: an all-zero partition becomes a fresh one
 pub mod Zeroed
--- files in two views, a run of stores that is cut, what makes a partition sound, and what its files need
+-- files in two views, a run of stores that is cut, what makes a partition sound, what its files need, and lawful stores
 pub mod SameFile
 pub mod Cut
 pub mod FreeBlocks
 pub mod Whole
 pub mod Needed
--- the calls, one by one: each changes its file alone at its deciding store, and whole leaves a sound partition
+pub mod Lawful
+-- the calls, one by one: each changes its file alone at its deciding store, whole leaves a sound partition, and stores lawfully
 pub mod Fresh
 pub mod Create
 pub mod OneBlock
 pub mod Returned
 pub mod Gone
 pub mod Destroy
-pub mod Effect
--- from views to images: lawful stores, what each call owes and comes to, an image that holds a partition
-pub mod Lawful
 pub mod LawfulRepair
+pub mod Effect
+-- from views to images: what each call owes and comes to, an image that holds a partition
 pub mod Owes
 pub mod Write
 pub mod Settled

@@ -20,15 +20,17 @@ use Rattle.volume.specs.Frame.{SameHead, head-of, Shape, Clean, Formed, kept-pr
 use Rattle.volume.specs.Plans.{st, stores, describePlan}
 use Rattle.volume.specs.Writes.{over, replacePlan}
 use Rattle.frame.specs.Soft.{headed-rel, cand-in, cand-same}
-use Rattle.frame.specs.Turn.{Turn, Mine, turn-free, turn-decided}
+use Rattle.frame.specs.Turn.{Turn, Mine, turn-free, turn-decided, Each}
 use Rattle.frame.specs.Decides.{Good}
 use Rattle.frame.specs.Sound.{sound-clean, sound-linked, sound-once, sound-within, sound-chained, sound-head, sound-tail, sound-number, sound-some, some-free}
 use Rattle.frame.specs.FreeChain.{links-of, sound-of, links-same}
 use Rattle.frame.specs.Reading.{two}
-use Rattle.crash.specs.FreeBlocks.{first-free, first-in, own-file, spot≢fib}
+use Rattle.crash.specs.FreeBlocks.{first-free, first-in, own-file, spot≢fib, spot-in}
 use Rattle.frame.specs.Joined.{chained-links}
 use Rattle.volume.specs.Reads.{off-pib}
 use Rattle.volume.specs.Words.{nextAt, previousAt}
+use Rattle.crash.specs.Lawful.{Placed, Lawful, inner}
+use Rattle.frame.specs.Fitting.{Words, text-fits, data-fits}
 
 -- r instead of the record of b, which is no pointer block: f's content alone is changed
 pub record One (π : Partition) (v : View) (f b : ℕ) (r : Rec) : Type 0 where
@@ -180,6 +182,10 @@ module _ (π : Partition) (v : View) (ok : sound π v ≡ true) (f : ℕ) (cf : 
   unfolding describePlan stores after
   describe-sound dat low = one-sound f (withText dat (v f)) (describe-one dat) low
 
+  pub describe-lawful : Placed π v → {n : ℕ} (dat : Rec) → Words n dat → Each (Lawful π v) (stores (describePlan π v f dat))
+  unfolding stores describePlan
+  describe-lawful at dat k = (inner at (cand-in π v f cf) (text-fits k (at .fits f)), tt)
+
   -- a data block that is present
   module _ (k : ℕ) (d : home < k) (p : present π v f k ≡ true) (dat : Rec) where
     pub replace-one : One π v f (spot π v f k) (withData dat (v (spot π v f k)))
@@ -205,3 +211,7 @@ module _ (π : Partition) (v : View) (ok : sound π v ≡ true) (f : ℕ) (cf : 
     pub replace-sound : π .s < π .e → sound π (after (stores (replacePlan π v f i dat)) v) ≡ true
     unfolding replacePlan over stores after
     replace-sound low = one-sound (spot π v f (292 + i)) (withData dat (v (spot π v f (292 + i)))) (replace-one (292 + i) (omega arith) here dat) low
+
+    pub replace-lawful : Placed π v → Words 256 dat → Each (Lawful π v) (stores (replacePlan π v f i dat))
+    unfolding stores replacePlan over
+    replace-lawful at k = (inner at (spot-in π v ok f cf (292 + i) here) (data-fits k (at .fits _)), tt)

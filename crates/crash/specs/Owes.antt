@@ -19,11 +19,11 @@ use Rattle.frame.specs.Repair.{repaired-quiet}
 use Rattle.frame.specs.Mended.{sound-is}
 use Rattle.frame.specs.Fitting.{Words}
 use Rattle.crash.specs.SameFile.{SameFiles}
-use Rattle.crash.specs.Lawful.{Placed, Lawful, create-lawful, describe-lawful, replace-lawful, destroy-lawful}
+use Rattle.crash.specs.Lawful.{Placed, Lawful}
 use Rattle.crash.specs.LawfulRepair.{repair-lawful}
-use Rattle.crash.specs.Create.{create-good, create-sound}
-use Rattle.crash.specs.OneBlock.{describe-good, describe-sound, replace-good, replace-sound}
-use Rattle.crash.specs.Destroy.{destroy-good, destroy-sound}
+use Rattle.crash.specs.Create.{create-good, create-sound, create-lawful}
+use Rattle.crash.specs.OneBlock.{describe-good, describe-sound, replace-good, replace-sound, describe-lawful, replace-lawful}
+use Rattle.crash.specs.Destroy.{destroy-good, destroy-sound, destroy-lawful}
 use Rattle.crash.specs.Effect.{Created, Written, Described, here-data, created, described, replaced, removed, mended-same}
 use Rattle.volume.specs.Reads.{candidate-in}
 
@@ -40,7 +40,7 @@ module _ (π : Partition) (v : View) (at : Placed π v) (ok : sound π v ≡ tru
     good = create-good π v ok room kind;
     whole = create-sound π v ok room kind (at .low) (at .pos);
     effect = created π (at .low) (at .pos) v ok kind room;
-    lawful = create-lawful at ok room kind k;
+    lawful = create-lawful π v ok room kind at k;
   }
 
   module _ (f : ℕ) (c : candidate π v f ≡ true) where
@@ -49,7 +49,7 @@ module _ (π : Partition) (v : View) (at : Placed π v) (ok : sound π v ≡ tru
       good = describe-good π v ok f c dat;
       whole = describe-sound π v ok f c dat (at .low);
       effect = described π (at .low) (at .pos) v ok f c dat;
-      lawful = describe-lawful at ok f c dat k;
+      lawful = describe-lawful π v ok f c at dat k;
     }
 
     pub replace-owes : (r : ℕ) (dat : Rec) → Words 256 dat → r < len v f → Owes π v (replacePlan π v f r dat) f (λ w. Written π v w f r dat)
@@ -59,7 +59,7 @@ module _ (π : Partition) (v : View) (at : Placed π v) (ok : sound π v ≡ tru
           good = replace-good π v ok f c r dat p;
           whole = replace-sound π v ok f c r dat p (at .low);
           effect = replaced π (at .low) (at .pos) v ok f c r dat l;
-          lawful = replace-lawful at ok f c r p dat k;
+          lawful = replace-lawful π v ok f c r dat p at k;
         }
 
     pub destroy-owes : Owes π v (destroyPlan π v f) f (λ w. isFile π w f ≡ false)
@@ -67,7 +67,7 @@ module _ (π : Partition) (v : View) (at : Placed π v) (ok : sound π v ≡ tru
       good = destroy-good π v ok f c;
       whole = destroy-sound π v ok f c (at .low) (at .pos);
       effect = removed π (at .low) (at .pos) v ok f c;
-      lawful = destroy-lawful at ok f c;
+      lawful = destroy-lawful π v ok f c at;
     }
 
   -- ---- repair: no file is changed, and block 0 is none
