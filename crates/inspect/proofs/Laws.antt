@@ -17,8 +17,8 @@ use Rattle.volume.specs.Keys.{home, reach, number, up, first, low}
 use Rattle.volume.specs.KeyLaws.{first-data, first-pointer, asked-closed, row-ptr, row-direct, row-data}
 use Rattle.volume.specs.Files.{partitionOf, inside, isLda, serial, candidate, wellFormed, named, len, entry, spot, present, name, above, below, least}
 use Rattle.volume.specs.declared.Partition.{Partition}
-use Rattle.volume.specs.Index.{wf-of, here-of, spot-home, spot-step, entry-at, entry-fib, present-high, present-low}
-use Rattle.volume.specs.Order.{above-is, below-is, least-present}
+use Rattle.volume.specs.Index.{wf-of, here-of, spot-home, spot-step, entry-at, entry-fib, present-high}
+use Rattle.volume.specs.Order.{above-next, below-prev, least-present}
 use Rattle.volume.specs.Closed.{spot-direct, spot-data}
 use Rattle.volume.specs.Answers.{partition, shown, showIn}
 use Rattle.volume.specs.Reads.{inside-of, Lies, lies, candidate-in}
@@ -152,10 +152,10 @@ module _ {π : Partition} {l : List ℕ} {f : ℕ} (o : Opened π l f) where
 
   -- so are its neighbours and the first and the last of the links
   pub opened-above : (k : ℕ) → present π (view l) f k ≡ true → (above π (view l) f k ≡ 0 → ⊥) → present π (view l) f (above π (view l) f k) ≡ true
-  opened-above k p n = above-is π (view l) f (o .formed) k (present-high π (view l) f k p) .hit n .0
+  opened-above k p n = above-next π (view l) f k .hit n .0
 
   pub opened-below : (k : ℕ) → present π (view l) f k ≡ true → (below π (view l) f k ≡ 0 → ⊥) → present π (view l) f (below π (view l) f k) ≡ true
-  opened-below k p n = below-is π (view l) f (o .formed) k (present-low π (view l) f k p) .hit n .0
+  opened-below k p n = below-prev π (view l) f k .hit n .0
 
   pub opened-least : present π (view l) f (least π (view l) f) ≡ true
   opened-least = least-present π (view l) f (o .formed) .1

@@ -64,10 +64,6 @@ number-fits k h = rw (number-less k h) (sfits-widen {w = w16} {w′ = w32} tt (s
 pub number-of : (k : ℕ) → k < 33060 → toZ w32 (ofZ w32 (toZ w32 k -ℤ pos 292)) ≡ signed (number k)
 number-of k h = toZ-ofZ w32 _ (number-fits k h) ∙ number-less k h
 
-pub number-small : (k : ℕ) → number k < 65536
-unfolding number
-number-small k = omega arith
-
 -- L from -1 to 4,159
 pub last-below : (l : ℤ) → SFits w32 l → ltZ (toZ w32 (ofZ w32 l)) (negsuc 0) ≡ true → false ≡ lastGood l
 last-below l f h = go l (rw (toZ-ofZ w32 l f) at h)

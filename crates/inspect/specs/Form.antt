@@ -6,22 +6,20 @@ use mathlib.Core.Bool.{Bool, true, false, _||_}
 use Prim.Native.Nat.{ℕ, zero, suc, _+_, _-_, _*_, _≤_, _<_}
 use native.Mathlib.Omega.{arith}
 use lib.Dec.{leb, ltb, eqb}
-use borrow.Author.Tests.{ltb-true, ltb-false, eqb-true, eqb-false, lt-ltb, le-ltb, eq-eqb, le-leb, leb-true}
+use borrow.Author.Tests.{ltb-true, ltb-false, eqb-true, le-ltb, eq-eqb, le-leb, leb-true}
 use Rattle.base.specs.Tests.{both, every, all}
 use Rattle.base.specs.Laws.{all-at, all-of, both-left, both-right, both-of, every-at, iff-eq}
 use Rattle.drive.specs.Address.{lda, ldaBlock}
 use Rattle.drive.specs.Laws.{lda-pos}
 use Rattle.image.specs.View.{View, pair}
 use Rattle.volume.specs.Words.{relativeAt, directAt, indirectAt, doubleAt, inUseAt, lastAddressAt, lowNumberAt, lowAddressAt}
-use Rattle.volume.specs.Search.{seek}
-use Rattle.volume.specs.Keys.{home, reach, number, up, slot, first, low, span}
-use Rattle.volume.specs.KeyLaws.{key-ind, first-up, first-data, first-doubles, low-home, low-pos, asked-low, span-end, fib-keys, last-asked, asked-closed, closed-ptr, row-direct, row-ptr, row-double}
-use Rattle.volume.specs.Files.{inside, isLda, serial, len, spot, present, entry, named, least, size, tally, wellFormed}
+use Rattle.volume.specs.Keys.{home, reach, number, up, slot, first, low}
+use Rattle.volume.specs.KeyLaws.{key-ind, first-up, first-data, first-doubles, low-pos, asked-low, fib-keys, last-asked, asked-closed, closed-ptr, row-direct, row-ptr, row-double}
+use Rattle.volume.specs.Files.{inside, isLda, serial, len, spot, present, entry, named, tally, wellFormed}
 use Rattle.volume.specs.declared.Partition.{Partition}
-use Rattle.volume.specs.Index.{WF, Member, wf-of, of-wf, or-at, or-of, here-of, of-here, present-home, present-low, present-high}
+use Rattle.volume.specs.Index.{WF, Member, wf-of, of-wf, or-at, or-of, here-of, of-here, present-home, named-of}
 use Rattle.volume.specs.Steps.{every-cons, every-nil}
-use Rattle.volume.specs.Order.{count-window}
-use Rattle.volume.specs.Closed.{hasKey, sizeOf, first-key, count-keys, least-closed, size-closed}
+use Rattle.volume.specs.Closed.{sizeOf, first-key, least-closed, size-closed, present-full, least-full, size-full}
 
 -- of the entries from word w of block f on, entry i is one of the first k, or nil
 abbrev pub nilFrom : View → ℕ → ℕ → ℕ → ℕ → Bool
@@ -126,12 +124,6 @@ module _ (v : View) (f n : ℕ) (h : nilsGood v f n ≡ true) where
 
 -- ---- well formed is these tests
 
--- a search whose first number passes
-seek-here : (n k : ℕ) (P : ℕ → Bool) → 0 < n → P k ≡ true → seek n k P ≡ k
-unfolding seek
-seek-here zero k P l h = absurd (omega arith)
-seek-here (suc n) k P l h = ap (λ (t : Bool). elim t [ true ↦ k | false ↦ seek n (suc k) P ]) h
-
 module _ (π : Partition) (v : View) (f : ℕ) where
   -- what is named well: its address, its header, and that it has an entry
   named-lda : (k : ℕ) → named π v f k ≡ true → isLda (π .drive) (entry π v f k) (spot π v f k) ≡ true
@@ -161,26 +153,8 @@ module _ (π : Partition) (v : View) (f : ℕ) where
     asked-present = key-ind (λ k. first k < len v f → present π v f k ≡ true) (λ l. present-home π v f)
         (λ k n ih l. of-here π v f k n (record { asked = l; held = ih (omega (arith, first-up k n)); said = named-said k (asked-named k n l) }))
 
-    has-key : (k : ℕ) → present π v f k ≡ hasKey (len v f) k
-    has-key k = iff-eq _ _ (λ h. or-of (eqb k home) _ (λ q. lt-ltb _ _ (here-of π v f k (eqb-false k home q) h .asked))) (λ h. go (eqb k home) refl h)
-      where
-        go : (t : Bool) → eqb k home ≡ t → (t || ltb (first k) (len v f)) ≡ true → present π v f k ≡ true
-        go true q h = ap (present π v f) (eqb-true k home q) ∙ present-home π v f
-        go false q h = asked-present k (ltb-true _ _ h)
-
     pub low-here : present π v f (low (len v f)) ≡ true
-    low-here = first-key (len v f) short (present π v f) has-key .hit (λ z. omega (arith, low-pos (len v f) short)) .0
-
-    found-least : least π v f ≡ low (len v f)
-    unfolding least
-    found-least = seek-here (span (len v f)) (low (len v f)) (present π v f) (omega (arith, span-end (len v f), low-home (len v f))) low-here
-
-    found-size : size π v f ≡ sizeOf (len v f)
-    unfolding size
-    found-size =
-        count-window (present π v f) (low (len v f)) (span (len v f)) (292 + len v f)
-        (λ i p. (present-low π v f i p, omega (arith, present-high π v f i p, span-end (len v f)))) (omega (arith, span-end (len v f)))
-        ∙ count-keys (len v f) short (present π v f) has-key
+    low-here = first-key (len v f) short (present π v f) (present-full π v f asked-present) .hit (λ z. omega (arith, low-pos (len v f) short)) .0
 
     pub ends : present π v f (home + len v f) ≡ true
     ends = go (ltb 0 (len v f)) refl
@@ -192,9 +166,9 @@ module _ (π : Partition) (v : View) (f : ℕ) where
     numbers-tally : numbersGood π v f (len v f) ≡ true → tally π v f ≡ true
     unfolding numbersGood tally
     numbers-tally h =
-        every-cons _ (ap (eqb (v f inUseAt)) found-size ∙ every-at _ h 0)
-        (every-cons _ (ap (λ (k : ℕ). eqb (v f lowNumberAt) (number k)) found-least ∙ every-at _ h 2)
-        (every-cons _ (ap (λ (k : ℕ). isLda (π .drive) (pair v f lowAddressAt) (spot π v f k)) found-least ∙ every-at _ h 3) every-nil))
+        every-cons _ (ap (eqb (v f inUseAt)) (size-full π v f asked-present short) ∙ every-at _ h 0)
+        (every-cons _ (ap (λ (k : ℕ). eqb (v f lowNumberAt) (number k)) (least-full π v f asked-present short) ∙ every-at _ h 2)
+        (every-cons _ (ap (λ (k : ℕ). isLda (π .drive) (pair v f lowAddressAt) (spot π v f k)) (least-full π v f asked-present short) ∙ every-at _ h 3) every-nil))
 
     numbers-last : numbersGood π v f (len v f) ≡ true → isLda (π .drive) (pair v f lastAddressAt) (spot π v f (home + len v f)) ≡ true
     unfolding numbersGood
@@ -226,18 +200,12 @@ module _ (π : Partition) (v : View) (f : ℕ) where
     w : WF π v f
     w = wf-of π v f h
 
-    here-named : (k : ℕ) → k ≢ home → present π v f k ≡ true → named π v f k ≡ true
-    unfolding named
-    here-named k n p =
-        let m = w .mine k n p in
-        every-cons _ (w .good k n p) (every-cons _ (m .ins) (every-cons _ (eq-eqb _ _ (m .ser)) (every-cons _ (eq-eqb _ _ (m .num)) every-nil)))
-
     pub formed-index : indexGood π v f (len v f) ≡ true
     unfolding indexGood
     formed-index =
         both-of
-        (all-of _ _ (λ j l. here-named (288 - j) (λ z. omega arith) (w .full (288 - j) (closed-ptr (len v f) (288 - j) (omega arith) (omega arith)))))
-        (all-of _ _ (λ r l. here-named (292 + r) (λ z. omega arith) (w .full (292 + r) (omega (arith, first-data (292 + r) (omega arith))))))
+        (all-of _ _ (λ j l. named-of π v f w (288 - j) (λ z. omega arith) (w .full (288 - j) (closed-ptr (len v f) (288 - j) (omega arith) (omega arith)))))
+        (all-of _ _ (λ r l. named-of π v f w (292 + r) (λ z. omega arith) (w .full (292 + r) (omega (arith, first-data (292 + r) (omega arith))))))
 
     spare-pointer : (j : ℕ) → 289 - low (len v f) ≤ j → j < 32 → len v f ≤ first (288 - j)
     spare-pointer j a b = go (ltb (first (288 - j)) (len v f)) refl

@@ -14,7 +14,7 @@ use Rattle.drive.specs.Laws.{pda-back}
 use Rattle.image.specs.View.{View, pair}
 use Rattle.volume.specs.Words.{serialAt, relativeAt, lastAddressAt}
 use Rattle.volume.specs.Keys.{home, keyOf, number, reach, up, slot, first, low, span}
-use Rattle.volume.specs.KeyLaws.{level, up-level, level-few, level-zero, low-home, low-pos, asked-low, asked-high, last-asked, span-end, fib-keys, near-keys, key-number, number-home, number-fib}
+use Rattle.volume.specs.KeyLaws.{level, up-level, level-few, level-zero, low-home, asked-low, asked-high, last-asked, span-end, fib-keys, near-keys, key-number, number-home, number-fib}
 use Rattle.volume.specs.Files.{inside, isLda, serial, candidate, len, spotIn, presentIn, spot, present, entry, named, keyTest, nilTest, indexed, fullTest, gapless, tally, wellFormed, isFile, fileOf, key, owned}
 use Rattle.volume.specs.declared.Partition.{Partition}
 use Rattle.volume.specs.Reads.{off-pib}
@@ -224,9 +224,6 @@ module _ (π : Partition) (v : View) where
   file-formed f h = both-right _ _ h
 
 module _ (π : Partition) (v : View) (f : ℕ) (c : candidate π v f ≡ true) (h : wellFormed π v f ≡ true) where
-  pub present-pos : (k : ℕ) → present π v f k ≡ true → 0 < k
-  present-pos k p = omega (arith, present-low π v f k p, low-pos (len v f) (wf-of π v f h .short))
-
   pub present-few : (k : ℕ) → present π v f k ≡ true → k < 33059
   present-few k p = omega (arith, present-high π v f k p, wf-of π v f h .short)
 

@@ -64,9 +64,6 @@ module _ (P : ℕ → Bool) where
   pub next-prev : (k j : ℕ) → 0 < k → P k ≡ true → j ≢ 0 → Next P k j → Prev P j k
   next-prev k j p h n a = record { hit = λ _. (h, a .hit n .1); none = λ i _ l m. a .none i (m (λ z. omega arith)) (λ _. l) }
 
-  pub prev-next : (k j : ℕ) → 0 < k → P k ≡ true → j ≢ 0 → Prev P k j → Next P j k
-  prev-next k j p h n a = record { hit = λ _. (h, a .hit n .1); none = λ i l m. a .none i (omega arith) (m (λ z. omega arith)) (λ _. l) }
-
   -- a count up to any bound past what passes
   pub count-split : (a m : ℕ) → count (a + m) P ≡ count a P + count m (λ i. P (a + i))
   unfolding count
@@ -140,13 +137,6 @@ module _ (π : Partition) (v : View) (f : ℕ) where
         go false q = ltb-false home (least π v f) q
 
   module _ (h : wellFormed π v f ≡ true) where
-    -- the same where the file is known to be well formed
-    pub above-is : (k : ℕ) → k ≤ home + len v f → Next (present π v f) k (above π v f k)
-    above-is k _ = above-next k
-
-    pub below-is : (k : ℕ) → low (len v f) ≤ k → Prev (present π v f) k (below π v f k)
-    below-is k _ = below-prev k
-
     pub least-present : (least π v f ≢ 0) × (present π v f (least π v f) ≡ true)
     least-present = (ne, least-is (wf-of π v f h .short) .hit ne .0)
       where

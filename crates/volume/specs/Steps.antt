@@ -1,5 +1,5 @@
 -- Laws for code that goes by tests: a list of tests with one that fails, loops that test each number below k, searches.
-use mathlib.Core.Path.{_≡_, refl, sym, ap, _∙_}
+use mathlib.Core.Path.{_≡_, refl, sym, _∙_}
 use mathlib.Core.Logic.{⊎-elim}
 use mathlib.Core.List.{List, [], _∷_}
 use mathlib.Core.Bool.{Bool, true, false, _&&_, true≢false}
@@ -158,14 +158,6 @@ eq-of {x} {y} {a} {b} p q h = eq-eqb a b (sym p ∙ h ∙ q)
 pub and-true : (a : Bool) → (a && true) ≡ a
 and-true true = refl
 and-true false = refl
-
-pub three-and : (a b c : Bool) → (a && b && c) ≡ (a && (b && (c && true)))
-three-and true b c = ap (λ (t : Bool). b && t) (sym (and-true c))
-three-and false b c = refl
-
-pub two-and : (a b : Bool) → (a && b) ≡ (a && (b && true))
-two-and true b = sym (and-true b)
-two-and false b = refl
 
 pub lowest-nothing : (p : ℕ → Bool) (a n : ℕ) → n ≡ 0 → Nothing ≡ lowest p a n
 unfolding lowest

@@ -3,7 +3,8 @@ use Rattle.growth.specs.Afterwards.{home-there}
 use Rattle.append.specs.Bodies.{grownFib}
 use Rattle.append.specs.Growing.{fibStore}
 use Rattle.append.proofs.Laws.{direct-in, number-last, low-there}
-use Rattle.inspect.proofs.Signs.{passed-word, passed-fits, number-small}
+use Rattle.volume.specs.KeyLaws.{number-small}
+use Rattle.inspect.proofs.Signs.{passed-word, passed-fits}
 use borrow.Author.Needs.{needs}
 use Rattle.append.proofs.fib_save.Statement.{statement}
 use Rattle.append.proofs.fib_save.Tie as tie

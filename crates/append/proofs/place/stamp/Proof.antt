@@ -1,5 +1,6 @@
 use Rattle.append.specs.Bodies.{stamped}
-use Rattle.inspect.proofs.Signs.{passed-word, passed-fits, number-small}
+use Rattle.volume.specs.KeyLaws.{number-small}
+use Rattle.inspect.proofs.Signs.{passed-word, passed-fits}
 use borrow.Author.Needs.{needs}
 use Rattle.append.proofs.place.stamp.Statement.{statement}
 use Rattle.append.proofs.place.stamp.Tie as tie

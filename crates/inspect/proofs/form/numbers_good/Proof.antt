@@ -3,7 +3,8 @@ use native.Mathlib.Omega.{arith}
 use borrow.Author.Tests.{not-true, not-false}
 use Rattle.volume.specs.Steps.{every-no, ne-of, eq-of}
 use Rattle.inspect.specs.Form.{numbersGood}
-use Rattle.inspect.proofs.Signs.{passed-word, passed-fits, number-small}
+use Rattle.volume.specs.KeyLaws.{number-small}
+use Rattle.inspect.proofs.Signs.{passed-word, passed-fits}
 use Rattle.inspect.proofs.Laws.{read-last, read-low}
 use Rattle.inspect.proofs.Ways.{every-last}
 use borrow.Author.Needs.{needs}

@@ -1,4 +1,5 @@
-use Rattle.inspect.proofs.Signs.{passed-word, passed-fits, number-small}
+use Rattle.volume.specs.KeyLaws.{number-small}
+use Rattle.inspect.proofs.Signs.{passed-word, passed-fits}
 use borrow.Author.Needs.{needs}
 use Rattle.inspect.proofs.index.entry_named.Statement.{statement}
 use Rattle.inspect.proofs.index.entry_named.Tie as tie

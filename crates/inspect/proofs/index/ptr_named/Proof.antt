@@ -1,5 +1,6 @@
 use mathlib.Core.Path.{sym, _∙_}
-use Rattle.inspect.proofs.Signs.{passed-word, passed-fits, number-small}
+use Rattle.volume.specs.KeyLaws.{number-small}
+use Rattle.inspect.proofs.Signs.{passed-word, passed-fits}
 use Rattle.inspect.proofs.Laws.{named-ptr}
 use borrow.Author.Needs.{needs}
 use Rattle.inspect.proofs.index.ptr_named.Statement.{statement}
