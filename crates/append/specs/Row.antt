@@ -126,7 +126,7 @@ module _ (π : Partition) (v : View) (f n : ℕ) (at : Behind π v f n) where
     -- all of them, a and q the blocks that it takes, m of them, and g the first free block afterwards
     pub row : (a q g m : ℕ) → a ≡ freeAt π v 0 → q ≡ freeAt π v 1 → g ≡ freeAt π v (takes n) → m ≡ takes n
         → dataStore π v f n a dat ∷ (pointerStores π v f n a q ++ (oldStores π v f n (ltb 0 n) (home + n) ++ (oldStores π v f n (grows n && ltb (low n) home) (low n)
-        ++ (fibStore π v f n a q ∷ (st g (newFirst 0 v g) ∷ (st (π .s) (pibLess (π .drive) v (π .s) g m) ∷ []))))))
+        ++ (fibStore π v f n a q ∷ (st g (newFirst v g) ∷ (st (π .s) (pibLess (π .drive) v (π .s) g m) ∷ []))))))
         ≡ stores (writePlan π v f n dat)
     unfolding takenStores newFirst
     row a q g m ha hq hg hm = rw (ha, hq, hg, hm, plan-is, early-is, map-row, data-is, pointer-is, fib-is, old-is (ltb 0 n) (home + n) last-old, old-is (grows n && ltb (low n) home) (low n) top-old)

@@ -58,7 +58,7 @@ module _ (π : Partition) (v : View) (ok : sound π v ≡ true) where
       }
     where
       first : Store
-      first = st (freeAt π v 1) (newFirst (π .drive) v (freeAt π v 1))
+      first = st (freeAt π v 1) (newFirst v (freeAt π v 1))
 
       pib : Store
       pib = st (π .s) (pibLess (π .drive) v (π .s) (freeAt π v 1) 1)
@@ -94,7 +94,7 @@ module _ (π : Partition) (v : View) (ok : sound π v ≡ true) where
       x = let b = spot π v f (least π v f) in st b (topGone (π .drive) v (freeHead π v) (freeTail π v) b)
 
       y : Store
-      y = let b = spot π v f (end v f) in st b (gone (π .drive) v (freeHead π v) b)
+      y = let b = spot π v f (end v f) in st b (gone v (freeHead π v) b)
 
       tops : List Store
       tops = pick alone [] (x ∷ [])
@@ -165,7 +165,7 @@ module _ (d : ℕ) (l : List ℕ) (s : ℕ) where
     unfolding describeIn describePlan stores
     describe-in f dat = go (candidate (partitionOf d s e) (view l) f)
       where
-        go : (c : Bool) → Orderly ((pick c (finish 0 (describePlan (partitionOf d s e) (view l) f dat)) (refuse NoCandidate)) .list)
+        go : (c : Bool) → Orderly ((pick c (finish 0 (describePlan (view l) f dat)) (refuse NoCandidate)) .list)
         go true = one-store _
         go false = no-store
 

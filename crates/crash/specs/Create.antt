@@ -32,7 +32,7 @@ use Rattle.volume.specs.Words.{fillerAt}
 use Rattle.drive.specs.Address.{lda}
 
 -- the new first free block: links and filler alone
-first-links : (d : ℕ) (v : View) (g w : ℕ) → w ≢ 3 → w ≢ 6 → w ≢ 7 → newFirst d v g w ≡ v g w
+first-links : (d : ℕ) (v : View) (g w : ℕ) → w ≢ 3 → w ≢ 6 → w ≢ 7 → newFirst v g w ≡ v g w
 unfolding newFirst
 first-links d v g w n3 n6 n7 = put2-off 6 0 _ w n6 n7 ∙ put-off 3 (asFiller g) (v g) w n3
 
@@ -139,8 +139,8 @@ module _ (π : Partition) (v : View) (ok : sound π v ≡ true) (room : 1 < leng
     drawn : Drawn π v ok 1 room W
     unfolding takenStores after
     drawn = record {
-      first = upd-other (upd D n (newFirst (π .drive) v n)) (π .s) _ n (off-pib π n n-in) ∙ upd-same D n (newFirst (π .drive) v n);
-      pib = upd-same (upd D n (newFirst (π .drive) v n)) (π .s) _;
+      first = upd-other (upd D n (newFirst v n)) (π .s) _ n (off-pib π n n-in) ∙ upd-same D n (newFirst v n);
+      pib = upd-same (upd D n (newFirst v n)) (π .s) _;
       kept = λ b i o m. other b (m 0 (omega arith)) (m 1 (omega arith)) (λ z. off-pib π b i (sym z));
       old = λ b h. sym (wo b) ∙ turn-keeps π v c D a create-turn b h (not-a b h);
       new = new;

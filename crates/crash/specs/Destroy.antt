@@ -73,7 +73,7 @@ module _ (π : Partition) (v : View) (ok : sound π v ≡ true) (f : ℕ) (cf : 
   tops = topGoneStores (π .drive) v a tl top alone
 
   abbrev lasts : List Store
-  lasts = lastGoneStores (π .drive) v a last empty
+  lasts = lastGoneStores v a last empty
 
   abbrev tailRec : Rec
   tailRec = put2 nextAt (pda (π .drive) top) (v tl)
@@ -130,10 +130,10 @@ module _ (π : Partition) (v : View) (ok : sound π v ≡ true) (f : ℕ) (cf : 
           same = ap (λ (y : Rec). pdaBlock (π .drive) (two y 0)) (upd-other v f R x (eqb-false x f p)) ∙ q
 
   -- what holds of each of the other stores
-  each-rest : (P : ℕ → Rec → Type 0) → (alone ≡ false → P top (topGone (π .drive) v a tl top)) → (empty ≡ false → P last (gone (π .drive) v a last)) → P tl tailRec → P (π .s) pibRec → Each P rest
+  each-rest : (P : ℕ → Rec → Type 0) → (alone ≡ false → P top (topGone (π .drive) v a tl top)) → (empty ≡ false → P last (gone v a last)) → P tl tailRec → P (π .s) pibRec → Each P rest
   unfolding topGoneStores lastGoneStores
   each-rest P x y z w = each-append P tops (lasts ++ ends) (each-pick P alone [] (st top (topGone (π .drive) v a tl top) ∷ []) (λ _. tt) (λ h. (x h, tt)))
-      (each-append P lasts ends (each-pick P empty [] (st last (gone (π .drive) v a last) ∷ []) (λ _. tt) (λ h. (y h, tt))) (z, (w, tt)))
+      (each-append P lasts ends (each-pick P empty [] (st last (gone v a last) ∷ []) (λ _. tt) (λ h. (y h, tt))) (z, (w, tt)))
 
   turn₁ : Turn π v D f
   unfolding after
@@ -228,14 +228,14 @@ module _ (π : Partition) (v : View) (ok : sound π v ≡ true) (f : ℕ) (cf : 
   W-top =
       ap (λ (x : View). pair x top previousAt) (after-append tops (lasts ++ ends) D)
       ∙ after-each Q (lasts ++ ends) (after tops D)
-      (each-append Q lasts ends (each-pick Q empty [] (st last (gone (π .drive) v a last) ∷ []) (λ _. tt) (λ h. (from-last h, tt)))
+      (each-append Q lasts ends (each-pick Q empty [] (st last (gone v a last) ∷ []) (λ _. tt) (λ h. (from-last h, tt)))
       ((λ z. absurd (apart tl _ tl-occ lp z)), ((λ z. absurd (off-pib π top (mine _ lp) (sym z))), tt)))
       (λ x z. subst (λ (b : ℕ). pair (after tops D) b previousAt ≡ pda (π .drive) tl) (sym z) (go alone refl)) top refl
     where
       Q : ℕ → Rec → Type 0
       Q x r = x ≡ top → two r 6 ≡ pda (π .drive) tl
 
-      from-last : empty ≡ false → Q last (gone (π .drive) v a last)
+      from-last : empty ≡ false → Q last (gone v a last)
       from-last h z = absurd (omega (arith, one _ _ ep lp z, least-most π v f (wf-of π v f wf .short), eqb-false (len v f) 0 h))
 
       go : (t : Bool) → alone ≡ t → pair (after (pick t [] (st top (topGone (π .drive) v a tl top) ∷ [])) D) top previousAt ≡ pda (π .drive) tl

@@ -121,7 +121,7 @@ module _ (π : Partition) (low : π.s < π.e) (pos : 0 < π.s) (v : View) (ok : 
       one-name : (i : ℕ) → i < len v f → name π (upd v b r) f i ≡ name π v f i
       one-name i l = sym (kept-spot π v (upd v b r) f shape (292 + i) (here-data i l))
 
-    pub described : (dat : Rec) → Described π v (after (stores (describePlan π v f dat)) v) f dat
+    pub described : (dat : Rec) → Described π v (after (stores (describePlan v f dat)) v) f dat
     unfolding describePlan stores after both withText
     described dat = record {
       file = one-file f X o;

@@ -12,14 +12,14 @@ use Rattle.image.specs.Stores.{Fits}
 
 -- on drive d, FreeHead naming h and FreeTail tl
 module _ (d : ℕ) (v : View) (h tl : ℕ) where
-  pub gone-zero : (b : ℕ) → two (gone d v h b) 0 ≡ 0
+  pub gone-zero : (b : ℕ) → two (gone v h b) 0 ≡ 0
   unfolding gone
   gone-zero b = put2-here 0 0 _
 
   pub top-zero : (b : ℕ) → two (topGone d v h tl b) 0 ≡ 0
   unfolding topGone
   top-zero b =
-      ap₂ (λ (x y : ℕ). x + 65536 * y) (put2-off 6 _ (gone d v h b) 0 (λ z. omega arith) (λ z. omega arith)) (put2-off 6 _ (gone d v h b) 1 (λ z. omega arith) (λ z. omega arith)) ∙ gone-zero b
+      ap₂ (λ (x y : ℕ). x + 65536 * y) (put2-off 6 _ (gone v h b) 0 (λ z. omega arith) (λ z. omega arith)) (put2-off 6 _ (gone v h b) 1 (λ z. omega arith) (λ z. omega arith)) ∙ gone-zero b
 
   pub fib-zero : (f : ℕ) (alone : Bool) → two (fibGone d v h tl f alone) 0 ≡ 0
   unfolding fibGone
@@ -27,7 +27,7 @@ module _ (d : ℕ) (v : View) (h tl : ℕ) where
   fib-zero f false = put2-here 0 0 (v f)
 
   -- a link word that stays in the record of a block: all but the previous link of the first
-  pub gone-word : (b w : ℕ) → 4 ≤ w → gone d v h b w ≡ v b w
+  pub gone-word : (b w : ℕ) → 4 ≤ w → gone v h b w ≡ v b w
   unfolding gone
   gone-word b w l = put2-off 0 0 _ w (λ z. omega arith) (λ z. omega arith) ∙ put-off 3 _ (v b) w (λ z. omega arith)
 
@@ -42,7 +42,7 @@ module _ (d : ℕ) (v : View) (h tl : ℕ) where
 
   pub top-prev : (b : ℕ) → two (topGone d v h tl b) 6 ≡ pda d tl
   unfolding topGone
-  top-prev b = put2-here 6 _ (gone d v h b)
+  top-prev b = put2-here 6 _ (gone v h b)
 
   pub fib-prev : (f : ℕ) (alone : Bool) → alone ≡ true → two (fibGone d v h tl f alone) 6 ≡ pda d tl
   unfolding fibGone
@@ -51,7 +51,7 @@ module _ (d : ℕ) (v : View) (h tl : ℕ) where
 
   -- they are words that fit
   module _ (fits : (b : ℕ) → Fits (v b)) where
-    pub gone-fits : (b : ℕ) → Fits (gone d v h b)
+    pub gone-fits : (b : ℕ) → Fits (gone v h b)
     unfolding gone
     gone-fits b = put2-fits 0 0 (omega arith) (omega arith) (put-fits 3 (asFiller h) (omega arith) (omega arith) (fits b))
 

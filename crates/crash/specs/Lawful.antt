@@ -53,7 +53,7 @@ module _ {π : Partition} {v : View} (at : Placed π v) where
   number-small : pair v π.s numberFreeAt < 4294967296
   number-small = omega (arith, at .fits π.s .small 12, at .fits π.s .small 13)
 
-  pub first-lawful : (g : ℕ) → inside π g ≡ true → Lawful π v g (newFirst π.drive v g)
+  pub first-lawful : (g : ℕ) → inside π g ≡ true → Lawful π v g (newFirst v g)
   unfolding newFirst
   first-lawful g i = inner i (put2-fits 6 0 (omega arith) (omega arith) (put-fits 3 (asFiller g) (omega arith) (omega arith) (at .fits g)))
 

@@ -174,15 +174,15 @@ module _ (π : Partition) (v : View) (ok : sound π v ≡ true) (f : ℕ) (cf : 
       off w l true = le-ltb w 60 l
       off w l false = refl
 
-  pub describe-good : (dat : Rec) → Good π v (describePlan π v f dat) f
+  pub describe-good : (dat : Rec) → Good π v (describePlan v f dat) f
   unfolding describePlan
   describe-good dat = one-good f (withText dat (v f)) (describe-one dat)
 
-  pub describe-sound : (dat : Rec) → π .s < π .e → sound π (after (stores (describePlan π v f dat)) v) ≡ true
+  pub describe-sound : (dat : Rec) → π .s < π .e → sound π (after (stores (describePlan v f dat)) v) ≡ true
   unfolding describePlan stores after
   describe-sound dat low = one-sound f (withText dat (v f)) (describe-one dat) low
 
-  pub describe-lawful : Placed π v → {n : ℕ} (dat : Rec) → Words n dat → Each (Lawful π v) (stores (describePlan π v f dat))
+  pub describe-lawful : Placed π v → {n : ℕ} (dat : Rec) → Words n dat → Each (Lawful π v) (stores (describePlan v f dat))
   unfolding stores describePlan
   describe-lawful at dat k = (inner at (cand-in π v f cf) (text-fits k (at .fits f)), tt)
 

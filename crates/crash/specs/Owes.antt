@@ -44,7 +44,7 @@ module _ (π : Partition) (v : View) (at : Placed π v) (ok : sound π v ≡ tru
   }
 
   module _ (f : ℕ) (c : candidate π v f ≡ true) where
-    pub describe-owes : {n : ℕ} (dat : Rec) → Words n dat → Owes π v (describePlan π v f dat) f (λ w. Described π v w f dat)
+    pub describe-owes : {n : ℕ} (dat : Rec) → Words n dat → Owes π v (describePlan v f dat) f (λ w. Described π v w f dat)
     describe-owes dat k = record {
       good = describe-good π v ok f c dat;
       whole = describe-sound π v ok f c dat (at .low);

@@ -37,7 +37,7 @@ module _ (π : Partition) (v : View) (at : Placed π v) (ok : sound π v ≡ tru
 
   pub describe-settled : {n : ℕ} (f : ℕ) (dat : Rec) → Words n dat → Settled π v f (λ w. Described π v w f dat) (describeIn π v f dat)
   unfolding describeIn
-  describe-settled f dat k = either (candidate π v f) _ _ (λ c. done 0 (describePlan π v f dat) (describe-owes π v at ok f c dat k)) (λ _. refused NoCandidate)
+  describe-settled f dat k = either (candidate π v f) _ _ (λ c. done 0 (describePlan v f dat) (describe-owes π v at ok f c dat k)) (λ _. refused NoCandidate)
 
   pub destroy-settled : (f : ℕ) → Settled π v f (λ w. isFile π w f ≡ false) (destroyIn π v f)
   unfolding destroyIn

@@ -97,21 +97,21 @@ module _ (π : Partition) (l : List ℕ) where
   abbrev pub targetOf : ℕ → ℕ → Found
   targetOf b i = fileAt (pair (view l) b (targetAt i))
 
-  -- what an entry with this target is
-  abbrev pub metTarget : Found → Met
-  metTarget (At t) = Taken (pick (isDirectory l t) 1 0) t
-  metTarget Nothing = Taken 2 0
-
   -- where entry j of directory f stands, the entries counted through its blocks
   abbrev pub placeOf : ℕ → ℕ → ℕ
   placeOf f j = entryAt (name π (view l) f (j / 16)) (j % 16)
+
+-- what an entry with this target is
+abbrev pub metTarget : List ℕ → Found → Met
+metTarget l (At t) = Taken (pick (isDirectory l t) 1 0) t
+metTarget l Nothing = Taken 2 0
 
 module _ (π : Partition) (l : List ℕ) (sel : Selection) where
   -- what entry j of directory f is
   unfoldable pub metAt : ℕ → ℕ → Met
   metAt f j =
       let b = name π (view l) f (j / 16) in
-      pick (takenAt l sel (j / 16) (entryAt b (j % 16))) (metTarget π l (targetOf π l b (j % 16))) Skip
+      pick (takenAt l sel (j / 16) (entryAt b (j % 16))) (metTarget l (targetOf π l b (j % 16))) Skip
 
 -- ---- look up
 
@@ -137,6 +137,11 @@ onward l k more Dangling = pick more Absent Dangling
 onward l k more Absent = Absent
 onward l k more (Beyond f) = Beyond f
 
+-- what the entry found in directory f is: a file, dangling, or absent
+abbrev pub enteredAt : Partition → List ℕ → ℕ → Found → Looked
+enteredAt π l f (At j) = asLooked (targetOf π l (name π (view l) f (j / 16)) (j % 16))
+enteredAt π l f Nothing = Absent
+
 module _ (π : Partition) (l : List ℕ) (sel : Selection) where
   -- entry j of f is taken and has the name
   unfoldable pub hit : List ℕ → ℕ → ℕ → Bool
@@ -146,13 +151,8 @@ module _ (π : Partition) (l : List ℕ) (sel : Selection) where
   unfoldable pub find : List ℕ → ℕ → Found
   find part f = lowest (hit part f) 0 (16 * len (view l) f)
 
-  -- what a name is in directory f: a file, dangling, or absent
-  abbrev pub enteredAt : ℕ → Found → Looked
-  enteredAt f (At j) = asLooked (targetOf π l (name π (view l) f (j / 16)) (j % 16))
-  enteredAt f Nothing = Absent
-
   unfoldable pub entered : List ℕ → ℕ → Looked
-  entered part f = enteredAt f (find part f)
+  entered part f = enteredAt π l f (find part f)
 
   -- the path from p on, in directory f with d levels left, this one counted
   unfoldable pub look : ℕ → List ℕ → ℕ → ℕ → Looked

@@ -189,9 +189,9 @@ module _ (π : Partition) (l : List ℕ) (sel : Selection) (f j b : ℕ) (q : b 
   unfolding metAt
   met-skip h = rw (metAt, ← q, ← z, h)
 
-  is-met : (x : Found) (w : ℕ) → a ≡ true → w ≡ pair (view l) b (9 + 16 * (j % 16)) → x ≡ fileAt π l w → metTarget π l x ≡ metAt π l sel f j
+  is-met : (x : Found) (w : ℕ) → a ≡ true → w ≡ pair (view l) b (9 + 16 * (j % 16)) → x ≡ fileAt π l w → metTarget l x ≡ metAt π l sel f j
   unfolding metAt
-  is-met x w h u k = rw (metAt, ← q, ← z, h) (ap (metTarget π l) (k ∙ ap (fileAt π l) u))
+  is-met x w h u k = rw (metAt, ← q, ← z, h) (ap (metTarget l) (k ∙ ap (fileAt π l) u))
 
   pub met-dangling : (x : Found) (w : ℕ) → a ≡ true → w ≡ pair (view l) b (9 + 16 * (j % 16)) → x ≡ fileAt π l w → x ≡ Nothing → Taken 2 0 ≡ metAt π l sel f j
   met-dangling x w h u k y = rw y at (is-met x w h u k)
@@ -217,7 +217,7 @@ module _ (π : Partition) (l : List ℕ) (sel : Selection) (f j what t : ℕ) (h
   pub met-short : nameLength l (placeOf π l f j) ≤ 25
   met-short = taken-fits l sel (j / 16) (placeOf π l f j) met-taken
 
-  pub met-target : metTarget π l (targetOf π l (name π (view l) f (j / 16)) (j % 16)) ≡ Taken what t
+  pub met-target : metTarget l (targetOf π l (name π (view l) f (j / 16)) (j % 16)) ≡ Taken what t
   unfolding metAt
   met-target = rw (metAt, met-taken) at h
 
@@ -235,6 +235,6 @@ module _ (π : Partition) (l : List ℕ) (sel : Selection) (f j what t : ℕ) (h
       kind true = omega arith
       kind false = omega arith
 
-      go : (x : Found) → metTarget π l x ≡ Taken what t → what ≤ 2
+      go : (x : Found) → metTarget l x ≡ Taken what t → what ≤ 2
       go (At y) q = let k : pick (isDirectory l y) 1 0 ≡ what = cc in rw (← k) (kind (isDirectory l y))
       go Nothing q = let k : 2 ≡ what = cc in omega arith

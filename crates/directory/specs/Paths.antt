@@ -207,7 +207,7 @@ module _ (π : Partition) (l : List ℕ) (sel : Selection) (path : List ℕ) whe
       at (At t) z = let i : _≡_ {A = ℕ} 0 1 = cc in absurd (omega arith)
       at Nothing z = let i : _≡_ {A = ℕ} 0 1 = cc in absurd (omega arith)
 
-      go : (y : Found) → enteredAt π l sel f y ≡ Beyond g → g ≤ π .e
+      go : (y : Found) → enteredAt π l f y ≡ Beyond g → g ≤ π .e
       go (At j) z = at (targetOf π l (name π (view l) f (j / 16)) (j % 16)) z
       go Nothing z = let i : _≡_ {A = ℕ} 0 1 = cc in absurd (omega arith)
 

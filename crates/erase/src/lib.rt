@@ -35,7 +35,7 @@ pub struct Release {
 // Block b as the last of a file that is gone: serial zero, FreeHead's LBN as filler.
 fn gone(img: &[u8], h: usize, b: usize) -> [u8; 528]
     requires { ⌜ Block (now img) b ⌝ }
-    ensures { λ r. ⌜ recOf r ≡ gone 0 (view (now (img .entry))) h b ⌝ }
+    ensures { λ r. ⌜ recOf r ≡ gone (view (now (img .entry))) h b ⌝ }
 {
     let x = image::with_word(image::record(img, b), FILLER, h % 65536);
     image::with_pair(x, SERIAL, 0)
@@ -74,7 +74,7 @@ fn top_save(img: &[u8], drive: usize, h: usize, tail: usize, top: usize, alone: 
 // The last block, if it is not the FIB.
 fn last_save(img: &[u8], h: usize, last: usize, empty: bool) -> Save
     requires { ⌜ Block (now img) last ⌝ }
-    ensures { λ r. ⌜ StandsFor (now (img .entry)) (lastGoneStores 0 (view (now (img .entry))) h last empty) r ⌝ }
+    ensures { λ r. ⌜ StandsFor (now (img .entry)) (lastGoneStores (view (now (img .entry))) h last empty) r ⌝ }
 {
     if empty {
         return image::none();

@@ -61,7 +61,7 @@ module _ (π : Partition) (v : View) (so : sound π v ≡ true) (n : ℕ) (room 
 
   -- a view in which they are owned, and else only the new first free block and the PIB count as changed
   pub record Drawn (W : View) : Type 0 where
-    pub first : W (freeAt π v n) ≡ newFirst (π .drive) v (freeAt π v n)
+    pub first : W (freeAt π v n) ≡ newFirst v (freeAt π v n)
     pub pib : W (π .s) ≡ pibLess (π .drive) v (π .s) (freeAt π v n) n
     pub kept : (b : ℕ) → inside π b ≡ true → owned π v b ≡ false → ((i : ℕ) → i ≤ n → freeAt π v i ≢ b) → W b ≡ v b
     pub old : (b : ℕ) → owned π v b ≡ true → owned π W b ≡ true
@@ -124,7 +124,7 @@ module _ (π : Partition) (v : View) (so : sound π v ≡ true) (n : ℕ) (room 
         same : (b : ℕ) → W b ≡ v b → (pair W b nextAt ≡ pair v b nextAt) × (pair W b previousAt ≡ pair v b previousAt)
         same b q = (ap (λ (x : Rec). two x nextAt) q, ap (λ (x : Rec). two x previousAt) q)
 
-        next : two (newFirst (π .drive) v (freeAt π v n)) 4 ≡ pair v (freeAt π v n) 4
+        next : two (newFirst v (freeAt π v n)) 4 ≡ pair v (freeAt π v n) 4
         next = ap₂ (λ (x y : ℕ). x + 65536 * y)
             (put2-off 6 0 _ 4 (λ z. omega arith) (λ z. omega arith) ∙ put-off 3 _ _ 4 (λ z. omega arith))
             (put2-off 6 0 _ 5 (λ z. omega arith) (λ z. omega arith) ∙ put-off 3 _ _ 5 (λ z. omega arith))

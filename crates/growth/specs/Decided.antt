@@ -131,7 +131,7 @@ module _ (π : Partition) (v : View) (f r : ℕ) (dat : Rec) (ok : Ready π v f 
   -- ---- the other files
 
   -- the new first free block changes in filler and link alone
-  first-soft : (u : View) → u g ≡ v g → Soft π u g (newFirst (π .drive) v g)
+  first-soft : (u : View) → u g ≡ v g → Soft π u g (newFirst v g)
   unfolding newFirst
   first-soft u q = record {
     head = record { low = at 0 (λ z. omega arith) (λ z. omega arith) (λ z. omega arith); high = at 1 (λ z. omega arith) (λ z. omega arith) (λ z. omega arith); rel = at 2 (λ z. omega arith) (λ z. omega arith) (λ z. omega arith) };
@@ -209,11 +209,11 @@ module _ (π : Partition) (v : View) (f r : ℕ) (dat : Rec) (ok : Ready π v f 
   -- the PIB and the new first free block
   pub pib-rec : whole (π .s) ≡ pibLess (π .drive) v (π .s) g (needs π v f r)
   unfolding takenStores after
-  pib-rec = ap (λ (u : View). u (π .s)) whole-last ∙ upd-same (upd decided g (newFirst (π .drive) v g)) (π .s) _
+  pib-rec = ap (λ (u : View). u (π .s)) whole-last ∙ upd-same (upd decided g (newFirst v g)) (π .s) _
 
-  pub first-rec : whole g ≡ newFirst (π .drive) v g
+  pub first-rec : whole g ≡ newFirst v g
   unfolding takenStores after
   first-rec =
       ap (λ (u : View). u g) whole-last
-      ∙ upd-other (upd decided g (newFirst (π .drive) v g)) (π .s) _ g (off-pib π g (ok .room (needs π v f r) (omega arith) .0))
-      ∙ upd-same decided g (newFirst (π .drive) v g)
+      ∙ upd-other (upd decided g (newFirst v g)) (π .s) _ g (off-pib π g (ok .room (needs π v f r) (omega arith) .0))
+      ∙ upd-same decided g (newFirst v g)

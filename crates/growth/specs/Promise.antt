@@ -128,7 +128,7 @@ module _ (π : Partition) (v : View) (f r : ℕ) (W : Writing π v f r) where
 
     -- what holds of the record of each key, of the new first free block's and of the PIB's holds of each store
     pub write-each : (P : ℕ → Rec → Type 0) → ((k : ℕ) → present′ π v f r k ≡ true → P (spot′ π v f r k) (grown π v f r dat k))
-        → P (freeAt π v (needs π v f r)) (newFirst (π .drive) v (freeAt π v (needs π v f r)))
+        → P (freeAt π v (needs π v f r)) (newFirst v (freeAt π v (needs π v f r)))
         → P (π .s) (pibLess (π .drive) v (π .s) (freeAt π v (needs π v f r)) (needs π v f r)) → Each P (stores (writePlan π v f r dat))
     unfolding takenStores
     write-each P h a b = subst (Each P) (sym list) (each-append P (map (store π v f r dat) keys) _ (run-of keys all-there) (a, (b, tt)))

@@ -29,7 +29,7 @@ replaced v b dat = record { before = []; deciding = st b (withData dat (v b)); r
 
 unfoldable pub created : ℕ → View → ℕ → ℕ → ℕ → ℕ → Plan
 created d v s h g kind =
-    record { before = []; deciding = st h (freshFib d v h kind); rest = st g (newFirst d v g) ∷ (st s (pibLess d v s g 1) ∷ []) }
+    record { before = []; deciding = st h (freshFib d v h kind); rest = st g (newFirst v g) ∷ (st s (pibLess d v s g 1) ∷ []) }
 
 -- the blocks and counts of a destroy: as in `destroyed`
 pub record Destroys (l : List ℕ) (s f n top last tail : ℕ) : Type 0 where

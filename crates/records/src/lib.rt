@@ -67,7 +67,7 @@ pub fn replace_store(img: &mut [u8], b: usize, block: &[u8], limit: usize) -> us
 // Block g as the first free block.
 pub fn first_save(img: &[u8], g: usize) -> Save
     requires { ⌜ Block (now img) g ⌝ }
-    ensures { λ r. ⌜ StandsFor (now (img .entry)) (st g (newFirst 0 (view (now (img .entry))) g) ∷ []) r ⌝ }
+    ensures { λ r. ⌜ StandsFor (now (img .entry)) (st g (newFirst (view (now (img .entry))) g) ∷ []) r ⌝ }
 {
     let x = image::with_word(image::record(img, g), FILLER, g % 65536);
     image::saved(g, image::with_pair(x, PREVIOUS, 0))

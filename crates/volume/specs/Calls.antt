@@ -81,7 +81,7 @@ module _ (π : Partition) (v : View) where
       (refuse NoCandidate)
 
   unfoldable pub describeIn : ℕ → Rec → Planned
-  describeIn f dat = pick (candidate π v f) (finish 0 (describePlan π v f dat)) (refuse NoCandidate)
+  describeIn f dat = pick (candidate π v f) (finish 0 (describePlan v f dat)) (refuse NoCandidate)
 
   unfoldable pub destroyIn : ℕ → Planned
   destroyIn f = pick (candidate π v f) (finish 0 (destroyPlan π v f)) (refuse NoCandidate)

@@ -51,6 +51,10 @@ module _ (v : View) where
   abbrev pub end : ℕ → ℕ
   end f = home + len f
 
+  -- an entry of the FIB is asked for by L, or nil
+  abbrev pub nilTest : ℕ → ℕ → Bool
+  nilTest f k = eqb k home || (ltb (first k) (len f) || eqb (pair v f (slot k)) 0)
+
 module _ (π : Partition) (v : View) where
   -- a candidate: a block of s+1..e whose serial is its own PDA and whose relative number is -1
   unfoldable pub candidate : ℕ → Bool
@@ -114,10 +118,6 @@ module _ (π : Partition) (v : View) where
   abbrev pub fullTest : ℕ → ℕ → Bool
   fullTest f k = not (ltb (first k) (len v f)) || present f k
 
-  -- an entry of the FIB is asked for by L, or nil
-  abbrev pub nilTest : ℕ → ℕ → Bool
-  nilTest f k = eqb k home || (ltb (first k) (len v f) || eqb (pair v f (slot k)) 0)
-
   -- every key that is present is named well
   unfoldable pub indexed : ℕ → Bool
   indexed f = let n = len v f in all (span n) (λ i. keyTest f (low n + i))
@@ -131,7 +131,7 @@ module _ (π : Partition) (v : View) where
   wellFormed f =
       every (leb (len v f) reach
       ∷ indexed f
-      ∷ all 99 (λ i. nilTest f (257 + i))
+      ∷ all 99 (λ i. nilTest v f (257 + i))
       ∷ isLda (π .drive) (pair v f lastAddressAt) (spot f (end v f))
       ∷ gapless f
       ∷ tally f

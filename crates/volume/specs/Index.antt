@@ -152,7 +152,7 @@ module _ (π : Partition) (v : View) (f : ℕ) where
     nil = λ k n q l.
         let r = fib-keys k n q in
         let z : 257 + (k - 257) ≡ k = omega (arith, r .0) in
-        let t = subst (λ (x : ℕ). nilTest π v f x ≡ true) z (all-at 99 _ (every-at _ h 2) (k - 257) (omega (arith, r .0, r .1))) in
+        let t = subst (λ (x : ℕ). nilTest v f x ≡ true) z (all-at 99 _ (every-at _ h 2) (k - 257) (omega (arith, r .0, r .1))) in
         eqb-true _ _ (or-at _ _ (or-at _ _ t (ne-eqb k home n)) (le-ltb _ _ l));
     ends = ends (eqb (len v f) 0) refl;
     last = every-at _ h 3;
@@ -189,7 +189,7 @@ module _ (π : Partition) (v : View) (f : ℕ) where
       index : indexed π v f ≡ true
       index = span-of (len v f) (keyTest π v f) (λ k l m. unless-of _ _ (λ p. or-of _ _ (λ q. named-of h k (eqb-false k home q) p)))
 
-      nils : all 99 (λ i. nilTest π v f (257 + i)) ≡ true
+      nils : all 99 (λ i. nilTest v f (257 + i)) ≡ true
       nils = all-of 99 _ (λ i l. or-of _ _ (λ q. or-of _ _ (λ m. eq-eqb _ _ (h .nil (257 + i) (eqb-false _ _ q) (near-keys (257 + i) (omega arith) (omega arith)) (ltb-false _ _ m)))))
 
 -- ---- a file's blocks

@@ -33,11 +33,11 @@ asFiller b = b % 65536
 
 -- ---- records that allocation writes, on drive d
 
-module _ (d : ℕ) (v : View) where
-  -- block g as the new first free block: previous nil, its own LBN as filler
-  unfoldable pub newFirst : ℕ → Rec
-  newFirst g = put2 previousAt 0 (put fillerAt (asFiller g) (v g))
+-- block g as the new first free block: previous nil, its own LBN as filler
+unfoldable pub newFirst : View → ℕ → Rec
+newFirst v g = put2 previousAt 0 (put fillerAt (asFiller g) (v g))
 
+module _ (d : ℕ) (v : View) where
   -- the PIB s with n free blocks fewer, from g on
   unfoldable pub pibLess : ℕ → ℕ → ℕ → Rec
   pibLess s g n = put2 freeHeadAt (lda d g) (put2 numberFreeAt (pair v s numberFreeAt - n) (v s))
@@ -50,23 +50,24 @@ module _ (d : ℕ) (v : View) where
 
 -- ---- records that destroy writes: h is FreeHead's block, tail FreeTail's
 
-module _ (d : ℕ) (v : View) where
-  -- the last block of the file; the first, which follows the old free tail; the FIB, which is the first where `alone`
-  unfoldable pub gone : ℕ → ℕ → Rec
-  gone h b = put2 serialAt 0 (put fillerAt (asFiller h) (v b))
+-- the last block of the file, and its store if the file is not empty
+unfoldable pub gone : View → ℕ → ℕ → Rec
+gone v h b = put2 serialAt 0 (put fillerAt (asFiller h) (v b))
 
+unfoldable pub lastGoneStores : View → ℕ → ℕ → Bool → List Store
+lastGoneStores v h last empty = pick empty [] (st last (gone v h last) ∷ [])
+
+module _ (d : ℕ) (v : View) where
+  -- the first block, which follows the old free tail; the FIB, which is the first where `alone`
   unfoldable pub topGone : ℕ → ℕ → ℕ → Rec
-  topGone h tail b = put2 previousAt (pda d tail) (gone h b)
+  topGone h tail b = put2 previousAt (pda d tail) (gone v h b)
 
   unfoldable pub fibGone : ℕ → ℕ → ℕ → Bool → Rec
   fibGone h tail f alone = pick alone (topGone h tail f) (put2 serialAt 0 (v f))
 
-  -- the first block, if it is not the FIB; the last, if the file is not empty
+  -- the store of the first block, if it is not the FIB
   unfoldable pub topGoneStores : ℕ → ℕ → ℕ → Bool → List Store
   topGoneStores h tail top alone = pick alone [] (st top (topGone h tail top) ∷ [])
-
-  unfoldable pub lastGoneStores : ℕ → ℕ → Bool → List Store
-  lastGoneStores h last empty = pick empty [] (st last (gone h last) ∷ [])
 
   -- the PIB s with n free blocks more, the last of them `last`
   unfoldable pub pibMore : ℕ → ℕ → ℕ → Rec
@@ -78,7 +79,7 @@ module _ (d : ℕ) (v : View) where
       record {
         before = [];
         deciding = st f (fibGone h tail f alone);
-        rest = topGoneStores h tail top alone ++ (lastGoneStores h last empty
+        rest = topGoneStores h tail top alone ++ (lastGoneStores v h last empty
             ++ (st tail (put2 nextAt (pda d top) (v tail)) ∷ (st s (pibMore s last n) ∷ [])));
       }
 
@@ -92,6 +93,9 @@ trimmed n k r w = pick (both (leb 8 w) (leb n (first (child k w)))) 0 (r w)
 unfoldable pub shaped : ℕ → ℕ → Rec → Rec
 shaped n k r = pick (ltb k home) (trimmed n k r) r
 
+unfoldable pub describePlan : View → ℕ → Rec → Plan
+describePlan v f dat = record { before = []; deciding = st f (withText dat (v f)); rest = [] }
+
 module _ (π : Partition) (v : View) where
   -- the free blocks in order; the block that FreeTail names
   unfoldable pub freeAt : ℕ → ℕ
@@ -103,13 +107,10 @@ module _ (π : Partition) (v : View) where
 
   -- a call that takes the first n free blocks stores the next one and the PIB at its end
   unfoldable pub takenStores : ℕ → List Store
-  takenStores n = st (freeAt n) (newFirst (π .drive) v (freeAt n)) ∷ (st (π .s) (pibLess (π .drive) v (π .s) (freeAt n) n) ∷ [])
+  takenStores n = st (freeAt n) (newFirst v (freeAt n)) ∷ (st (π .s) (pibLess (π .drive) v (π .s) (freeAt n) n) ∷ [])
 
   unfoldable pub createPlan : ℕ → Plan
   createPlan kind = record { before = []; deciding = st (freeAt 0) (freshFib (π .drive) v (freeAt 0) kind); rest = takenStores 1 }
-
-  unfoldable pub describePlan : ℕ → Rec → Plan
-  describePlan f dat = record { before = []; deciding = st f (withText dat (v f)); rest = [] }
 
   unfoldable pub destroyPlan : ℕ → Plan
   destroyPlan f =
