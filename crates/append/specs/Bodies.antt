@@ -7,8 +7,8 @@ use native.Mathlib.Omega.{arith}
 use lib.Dec.{leb, ltb, eqb}
 use borrow.Author.Tests.{ltb-true, eq-eqb, ne-eqb}
 use Rattle.base.specs.Tests.{pick, both}
-use Rattle.drive.specs.Address.{pda, lda}
-use Rattle.image.specs.View.{View, Rec, put, put2, blank}
+use Rattle.drive.specs.Address.{pda, lda, address}
+use Rattle.image.specs.View.{View, Rec, pair, put, put2, blank}
 use Rattle.image.specs.Saves.{withData}
 use Rattle.volume.specs.Words.{serialAt, relativeAt, fillerAt, slotAt, directAt, indirectAt, inUseAt, lastBlockAt, lastAddressAt, lowNumberAt, lowAddressAt}
 use Rattle.volume.specs.Keys.{home, number, slot, low}
@@ -17,8 +17,7 @@ use Rattle.volume.specs.Files.{spot}
 use Rattle.volume.specs.declared.Partition.{Partition}
 use Rattle.volume.specs.Closed.{sizeOf}
 use Rattle.volume.specs.Plans.{freeAt}
-use Rattle.volume.specs.Reads.{address-lda}
-use Rattle.volume.specs.Writes.{put2If, over, counted, needs, isNew, spot′, empty, base, entered, ended, body}
+use Rattle.volume.specs.Writes.{put2If, over, counted, needs, isNew, spot′, lastAddress, empty, base, entered, ended, body}
 use Rattle.growth.specs.Ready.{Behind}
 use Rattle.growth.specs.Path.{both-none, over-zero, over-data, over-near, over-two, needs-some, new-at, new-not-home, new-beyond, fresh-at}
 use Rattle.growth.specs.Afterwards.{new-old}
@@ -37,8 +36,8 @@ pointerBase π v f n q t = pick t (stamped (π .drive) v f q (low (n + 1))) (v (
 -- the FIB of n + 1 blocks, the last a, a new pointer block q, and b the first in link order
 unfoldable pub grownFib : ℕ → View → ℕ → ℕ → ℕ → ℕ → ℕ → Rec
 grownFib d v f n a q b =
-    put inUseAt (sizeOf (n + 1)) (put lowNumberAt (number (low (n + 1))) (put2 lowAddressAt (lda d b)
-    (put lastBlockAt n (put2 lastAddressAt (lda d a)
+    put inUseAt (sizeOf (n + 1)) (put lowNumberAt (number (low (n + 1))) (put2 lowAddressAt (address d (pair v f lowAddressAt) b)
+    (put lastBlockAt n (put2 lastAddressAt (address d (pair v f lastAddressAt) a)
     (put2If (ltb n 64) (directAt n) (lda d a) (put2If (grows n) (indirectAt (n / 128)) (lda d q) (v f)))))))
 
 -- an entry that is put where another test says so, at the same place
@@ -131,13 +130,9 @@ module _ (π : Partition) (v : View) (f n : ℕ) (at : Behind π v f n) (dat : R
       one true = refl
       one false = refl
 
-  counted-is : (z m a : ℕ) (x : Rec) → counted π z m a x ≡ put inUseAt z (put lowNumberAt m (put2 lowAddressAt (lda (π .drive) a) x))
-  unfolding counted
-  counted-is z m a x = ap (λ (y : ℕ). put inUseAt z (put lowNumberAt m (put2 lowAddressAt y x))) (address-lda (π .drive) _ a)
-
   pub body-fib : body π v f n dat home ≡ grownFib (π .drive) v f n (freeAt π v 0) (freeAt π v 1) (spot′ π v f n (low (n + 1)))
-  unfolding body grownFib
+  unfolding body grownFib counted
   body-fib =
-      ap₂ (λ (z k : ℕ). counted π z (number k) (spot′ π v f n k) (ended π v f n dat (entered π v f n dat home (v f)))) (size-is π v f n at) (least-is π v f n at)
-      ∙ ap (counted π (sizeOf (n + 1)) (number (low (n + 1))) (spot′ π v f n (low (n + 1)))) (ended-is π v f n dat _ ∙ ap (λ (x : Rec). put lastBlockAt n (put2 lastAddressAt A x)) entered-home)
-      ∙ counted-is _ _ _ _
+      ap₂ (λ (z k : ℕ). counted z (number k) (address (π .drive) (pair v f lowAddressAt) (spot′ π v f n k)) (ended π v f n dat (entered π v f n dat home (v f)))) (size-is π v f n at) (least-is π v f n at)
+      ∙ ap (counted (sizeOf (n + 1)) (number (low (n + 1))) (address (π .drive) (pair v f lowAddressAt) (spot′ π v f n (low (n + 1)))))
+      (ended-is π v f n dat _ ∙ ap (λ (x : Rec). put lastBlockAt n (put2 lastAddressAt (lastAddress π v f n) x)) entered-home)

@@ -110,12 +110,14 @@ fn fib_save(img: &[u8], w: Append) -> Save
     let top = place::block_of(img, w, low);
     let la = lda_of(p.drive, w.a);
     let lq = lda_of(p.drive, w.q);
+    let last_at = drive::address(p.drive, image::pair(img, w.f, LAST_ADDRESS), w.a);
+    let low_at = drive::address(p.drive, image::pair(img, w.f, LOW_ADDRESS), top);
     let x = image::record(img, w.f);
     let x = pair_if(x, place::grows(n), INDIRECT + 2 * (n / 128), lq);
     let x = pair_if(x, n < 64, DIRECT + 2 * n, la);
-    let x = image::with_pair(x, LAST_ADDRESS, la);
+    let x = image::with_pair(x, LAST_ADDRESS, last_at);
     let x = image::with_signed(x, LAST_BLOCK, inspect::number_of(FIRST + n));
-    let x = image::with_pair(x, LOW_ADDRESS, lda_of(p.drive, top));
+    let x = image::with_pair(x, LOW_ADDRESS, low_at);
     let x = image::with_signed(x, LOW_NUMBER, inspect::number_of(low));
     let x = image::with_word(x, IN_USE, inspect::size_of(n + 1));
     place::key_save(img, w, HOME, x)

@@ -1,4 +1,4 @@
--- The parts of the records that repair stores, over plain numbers: a link that may be nil, an address, and words that are made nil.
+-- The parts of the records that repair stores, over plain numbers: the PIB, and words that are made nil.
 use mathlib.Core.Path.{_≡_, refl, sym, ap, ap₂, _∙_, fun-ext}
 use mathlib.Core.List.{List}
 use mathlib.Core.Bool.{Bool, true, false}
@@ -11,13 +11,19 @@ use lib.Seq.{getD-set-same, getD-set-other}
 use borrow.Author.Tests.{ltb-true, ltb-false, eqb-true, eqb-false, leb-true, le-leb, lt-ltb, le-ltb}
 use Rattle.base.specs.Tests.{pick, both}
 use Rattle.base.specs.Laws.{iff-eq, both-left, both-right, both-of}
-use Rattle.image.specs.View.{Rec}
+use Rattle.drive.specs.Address.{address}
+use Rattle.image.specs.View.{View, Rec, pair, put2}
 use Rattle.image.specs.Image.{recOf}
-use Rattle.volume.specs.Words.{slotAt}
+use Rattle.volume.specs.Words.{slotAt, freeHeadAt, freeTailAt, numberFreeAt}
 use Rattle.volume.specs.Keys.{home, child, first}
 use Rattle.volume.specs.KeyLaws.{child-pair}
 use Rattle.volume.specs.Closed.{hasKey, entriesOf, entry-asked, has-pointers}
 use Rattle.volume.specs.Plans.{trimmed, shaped}
+
+-- the PIB s of n free blocks from `first` to `last`
+unfoldable pub pibRecord : ℕ → View → ℕ → ℕ → ℕ → ℕ → Rec
+pibRecord d v s first last n =
+    put2 freeHeadAt (address d (pair v s freeHeadAt) first) (put2 freeTailAt (address d (pair v s freeTailAt) last) (put2 numberFreeAt n (v s)))
 
 -- a record whose words from a on are nil
 unfoldable pub cleared : ℕ → Rec → Rec

@@ -3,14 +3,14 @@ ghost use mathlib.Core.Path.{_≡_};
 ghost use mathlib.Core.Bool.{true};
 ghost use Prim.Native.Nat.{_+_, _*_, _≤_, _<_};
 ghost use lib.ListN.{length};
-ghost use Rattle.drive.specs.Address.{lda, orNil};
+ghost use Rattle.drive.specs.Address.{orNil};
 ghost use Rattle.image.specs.View.{put, put2};
 ghost use Rattle.image.specs.Image.{view, recOf};
-ghost use Rattle.volume.specs.Words.{serialAt, fillerAt, nextAt, previousAt, freeHeadAt, freeTailAt, numberFreeAt};
+ghost use Rattle.volume.specs.Words.{serialAt, fillerAt, nextAt, previousAt};
 ghost use Rattle.volume.specs.Files.{owned};
 ghost use Rattle.volume.specs.Closed.{hasKey};
 ghost use Rattle.volume.specs.Plans.{asFiller, trimmed, shaped, relinked};
-ghost use Rattle.blocks.specs.Records.{cleared};
+ghost use Rattle.blocks.specs.Records.{cleared, pibRecord};
 ghost use Rattle.blocks.specs.Ready.{Ready};
 use inspect::HOME;
 use volume::Partition;
@@ -45,12 +45,14 @@ pub fn freed(
 // The PIB's record for n free blocks from `first` to `last`.
 pub fn pib(img: &[u8], drive: usize, s: usize, first: usize, last: usize, n: usize) -> [u8; 528]
     requires { ⌜ (528 * s + 528 ≤ length (now img)) × (first < 69552) × (last < 69552) × (n < 69552) ⌝ }
-    ensures { λ r. ⌜ recOf r ≡ put2 freeHeadAt (lda drive first) (put2 freeTailAt (lda drive last) (put2 numberFreeAt n (view (now (img .entry)) s))) ⌝ }
+    ensures { λ r. ⌜ recOf r ≡ pibRecord drive (view (now (img .entry))) s first last n ⌝ }
 {
+    let head = drive::address(drive, image::pair(img, s, FREE_HEAD), first);
+    let tail = drive::address(drive, image::pair(img, s, FREE_TAIL), last);
     let x = image::record(img, s);
     let x = image::with_pair(x, NUMBER_FREE, n);
-    let x = image::with_pair(x, FREE_TAIL, drive::lda(drive, last));
-    image::with_pair(x, FREE_HEAD, drive::lda(drive, first))
+    let x = image::with_pair(x, FREE_TAIL, tail);
+    image::with_pair(x, FREE_HEAD, head)
 }
 
 // A record whose words from w on are nil.

@@ -9,12 +9,12 @@ use lib.Dec.{eqb}
 use lib.ListN.{length-append}
 use borrow.Author.Tests.{eqb-true, eqb-false}
 use Rattle.base.specs.Tests.{pick, both, occ}
-use Rattle.drive.specs.Address.{pda, pdaBlock, lda}
+use Rattle.drive.specs.Address.{pda, pdaBlock, isLda}
 use Rattle.drive.specs.Laws.{pda-pos}
 use Rattle.image.specs.View.{upd-same, upd-other, View, Rec, Store, after, upd, pair, put2}
 use Rattle.volume.specs.Words.{nextAt, previousAt, numberFreeAt}
 use Rattle.volume.specs.Keys.{home, span, low}
-use Rattle.volume.specs.Files.{isLda, inside, candidate, len, end, spot, present, least, size, wellFormed, fileOf, owned, free, freeHead, sound}
+use Rattle.volume.specs.Files.{inside, candidate, len, end, spot, present, least, size, wellFormed, fileOf, owned, free, freeHead, sound}
 use Rattle.volume.specs.declared.Partition.{Partition}
 use Rattle.volume.specs.Index.{spot-home, present-home, wf-of, own, file-candidate, file-back, pib-not}
 use Rattle.volume.specs.Order.{least-present, least-most}
@@ -22,7 +22,7 @@ use Rattle.volume.specs.Frame.{Clean}
 use Rattle.volume.specs.Plans.{st, stores, destroyPlan, destroyed, gone, topGone, fibGone, topGoneStores, lastGoneStores, pibMore, freeTail}
 use Rattle.frame.specs.Soft.{headed, headed-is, headed-zero, soft-links, cand-in}
 use Rattle.frame.specs.Reading.{two, put2-off, put2-here}
-use Rattle.frame.specs.Repair.{lda-self}
+use Rattle.drive.specs.Names.{address-names}
 use Rattle.frame.specs.Turn.{Each, each-append, each-pick, after-each, after-append, after-miss, Calm, calm-soft, calm-free, calm-pib, Turn, turn-free, turn-decided, turn-keeps}
 use Rattle.frame.specs.Decides.{Decides, Good}
 use Rattle.frame.specs.Sound.{tail-free, sound-clean, sound-once, sound-within, sound-head, sound-number, free-in, free-not, sound-some, some-free}
@@ -36,7 +36,7 @@ use Rattle.frame.specs.Joined.{within-both, head-both, last-both}
 use Rattle.crash.specs.Returned.{Behind, occ-blocks, ways}
 use Rattle.volume.specs.Reads.{off-pib}
 use Rattle.base.specs.Laws.{never}
-use Rattle.crash.specs.Lawful.{Placed, Lawful, pda-fits, lda-fits, le-end, inner, at-pib}
+use Rattle.crash.specs.Lawful.{Placed, Lawful, pda-fits, address-fits, le-end, inner, at-pib}
 use Rattle.frame.specs.Fitting.{put2-fits}
 use Rattle.frame.specs.Chain.{chain-short}
 use Rattle.base.specs.Sums.{count-both}
@@ -179,7 +179,7 @@ module _ (π : Partition) (v : View) (ok : sound π v ≡ true) (f : ℕ) (cf : 
       inner at (cand-in π v f cf) (fib-fits (π .drive) v a tl (at .fits) tail-small f alone),
       each-rest (Lawful π v) (λ _. inner at (mine _ lp) (top-fits (π .drive) v a tl (at .fits) tail-small top)) (λ _. inner at (mine _ ep) (gone-fits (π .drive) v a tl (at .fits) last))
           (inner at tail-in (put2-fits 4 _ (omega arith) (pda-fits at top (le-end at top (mine _ lp))) (at .fits tl)))
-          (at-pib at (put2-fits 10 _ (omega arith) (lda-fits at last (le-end at last (mine _ ep))) (put2-fits 12 (pair v (π .s) numberFreeAt + size π v f) (omega arith) (omega (arith, number-few, size-few)) (at .fits (π .s))))
+          (at-pib at (put2-fits 10 _ (omega arith) (address-fits at (π .s) 10 last (le-end at last (mine _ ep))) (put2-fits 12 (pair v (π .s) numberFreeAt + size π v f) (omega arith) (omega (arith, number-few, size-few)) (at .fits (π .s))))
           (λ w l. put2-off 10 _ _ w (λ z. omega arith) (λ z. omega arith) ∙ put2-off 12 _ (v (π .s)) w (λ z. omega arith) (λ z. omega arith))),
     )
 
@@ -273,8 +273,8 @@ module _ (π : Partition) (v : View) (ok : sound π v ≡ true) (f : ℕ) (cf : 
       inn = within-both π (free π v) (blocks π v f) (sound-within π v ok) (within-blocks π v f cf wf);
       ways = ways π v ok f cf W behind;
       once = once;
-      head = ap₂ (isLda (π .drive)) (ap (λ (r : Rec). two r 8) W-pib ∙ low-words) (head-both (free π v) (blocks π v f) (sound-some π v ok)) ∙ sound-head π v ok;
-      tail = ap₂ (isLda (π .drive)) (ap (λ (r : Rec). two r 10) W-pib ∙ put2-here 10 _ _) (last-both 0 (free π v) (blocks π v f) ∙ last-blocks π v f cf wf _) ∙ lda-self π last;
+      head = ap₂ (isLda (π .drive)) (ap (λ (r : Rec). two r 8) W-pib ∙ low-words _) (head-both (free π v) (blocks π v f) (sound-some π v ok)) ∙ sound-head π v ok;
+      tail = ap₂ (isLda (π .drive)) (ap (λ (r : Rec). two r 10) W-pib ∙ put2-here 10 _ _) (last-both 0 (free π v) (blocks π v f) ∙ last-blocks π v f cf wf _) ∙ address-names (π .drive) _ last;
       number = ap (λ (r : Rec). two r 12) W-pib
           ∙ ap₂ (λ (x y : ℕ). x + 65536 * y) (put2-off 10 _ _ 12 (λ z. omega arith) (λ z. omega arith)) (put2-off 10 _ _ 13 (λ z. omega arith) (λ z. omega arith)) ∙ put2-here 12 _ (v (π .s))
           ∙ ap₂ _+_ (sound-number π v ok) (sym (blocks-length π v f cf wf)) ∙ sym (length-append (free π v) (blocks π v f));
@@ -284,8 +284,8 @@ module _ (π : Partition) (v : View) (ok : sound π v ≡ true) (f : ℕ) (cf : 
         base : Rec
         base = put2 12 (pair v (π .s) 12 + size π v f) (v (π .s))
 
-        low-words : two (put2 10 (lda (π .drive) last) base) 8 ≡ pair v (π .s) 8
-        low-words = ap₂ (λ (y z : ℕ). y + 65536 * z)
+        low-words : (a : ℕ) → two (put2 10 a base) 8 ≡ pair v (π .s) 8
+        low-words a = ap₂ (λ (y z : ℕ). y + 65536 * z)
             (put2-off 10 _ base 8 (λ z. omega arith) (λ z. omega arith) ∙ put2-off 12 _ (v (π .s)) 8 (λ z. omega arith) (λ z. omega arith))
             (put2-off 10 _ base 9 (λ z. omega arith) (λ z. omega arith) ∙ put2-off 12 _ (v (π .s)) 9 (λ z. omega arith) (λ z. omega arith))
 

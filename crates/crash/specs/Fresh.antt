@@ -9,19 +9,19 @@ use lib.Dec.{eqb}
 use borrow.Author.Tests.{eqb-true, eqb-false, eq-eqb, ne-eqb}
 use Rattle.base.specs.Tests.{pick, every, count}
 use Rattle.base.specs.Laws.{cons-same, never}
-use Rattle.drive.specs.Address.{pda, lda}
+use Rattle.drive.specs.Address.{pda, lda, isLda}
 use Rattle.image.specs.View.{View, Rec, pair, put, put2, blank}
 use Rattle.volume.specs.Words.{nextAt, previousAt}
 use Rattle.volume.specs.Search.{seek}
 use Rattle.volume.specs.Keys.{home, number, slot, low, span}
 use Rattle.volume.specs.KeyLaws.{slot-fib, number-home}
-use Rattle.volume.specs.Files.{isLda, inside, candidate, len, spot, present, least, size, tally, wellFormed, above, below, link}
+use Rattle.volume.specs.Files.{inside, candidate, len, spot, present, least, size, tally, wellFormed, above, below, link}
 use Rattle.volume.specs.declared.Partition.{Partition}
 use Rattle.volume.specs.Index.{spot-home, present-home, here-of, of-wf}
 use Rattle.volume.specs.Order.{next-one, prev-one, above-next, below-prev}
 use Rattle.volume.specs.Plans.{freshFib}
 use Rattle.frame.specs.Reading.{word}
-use Rattle.frame.specs.Repair.{lda-self}
+use Rattle.drive.specs.Names.{lda-self}
 use Rattle.frame.specs.FreeChain.{Links}
 
 -- nothing stands in its links, its description and its index
@@ -74,7 +74,7 @@ module _ (π : Partition) (v u : View) (h kind : ℕ) (q : u h ≡ freshFib (π 
   size-is = ap (λ (n : ℕ). count (span n) (λ i. present π u h (low n + i))) fresh-len ∙ ap (λ (t : Bool). pick t 1 0 + 0) (present-home π u h)
 
   address-is : (w k : ℕ) → pair u h w ≡ lda (π .drive) h → k ≡ home → isLda (π .drive) (pair u h w) (spot π u h k) ≡ true
-  address-is w k a z = ap₂ (isLda (π .drive)) a (ap (spot π u h) z ∙ spot-home π u h) ∙ lda-self π h
+  address-is w k a z = ap₂ (isLda (π .drive)) a (ap (spot π u h) z ∙ spot-home π u h) ∙ lda-self (π .drive) h
 
   tallied : tally π u h ≡ true
   unfolding tally freshFib put put2 every

@@ -6,11 +6,10 @@ use native.Mathlib.Omega.{arith}
 use lib.Dec.{leb, ltb}
 use lib.ListN.{take, drop, length}
 use Rattle.base.specs.Tests.{pick, every}
-use Rattle.drive.specs.Address.{ldaBlock}
+use Rattle.drive.specs.Address.{ldaBlock, isLda}
 use Rattle.image.specs.View.{View, Rec, Store, after, pair}
 use Rattle.image.specs.Image.{view, Bytes}
 use Rattle.image.specs.Stores.{Fits, Whole, stored, over, bytesFrom, bytesOf, view-stored, stored-length}
-use Rattle.volume.specs.Files.{isLda}
 use Rattle.volume.specs.declared.Partition.{Partition}
 use Rattle.frame.specs.Turn.{Each, each-map, after-each}
 use Rattle.base.specs.declared.Refusal.the-variants.{BadImage, BadPartition}

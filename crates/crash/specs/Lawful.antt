@@ -2,16 +2,16 @@
 -- the partition's start and end among it. Every store of every call is one.
 use mathlib.Core.Path.{_≡_, _∙_}
 use mathlib.Core.Bool.{true}
-use Prim.Native.Nat.{ℕ, _-_, _≤_, _<_}
+use Prim.Native.Nat.{ℕ, _+_, _-_, _≤_, _<_}
 use native.Mathlib.Omega.{arith}
-use Rattle.drive.specs.Address.{pda, lda}
+use Rattle.drive.specs.Address.{pda, lda, address}
 use Rattle.image.specs.View.{View, Rec, pair}
 use Rattle.image.specs.Stores.{Fits}
 use Rattle.volume.specs.Files.{inside}
 use Rattle.volume.specs.declared.Partition.{Partition}
 use Rattle.volume.specs.Plans.{newFirst, pibLess, asFiller}
 use Rattle.frame.specs.Reading.{put2-off}
-use Rattle.drive.specs.Fits.{pda-small, lda-small}
+use Rattle.drive.specs.Fits.{pda-small, lda-small, address-small}
 use Rattle.volume.specs.Words.{numberFreeAt}
 use Rattle.frame.specs.Fitting.{put-fits, put2-fits}
 use Rattle.volume.specs.Reads.{inside-of}
@@ -40,6 +40,10 @@ module _ {π : Partition} {v : View} (at : Placed π v) where
   pub lda-fits : (b : ℕ) → b ≤ π.e → lda π.drive b < 4294967296
   lda-fits b h = lda-small π.drive b (omega (arith, at .few))
 
+  -- the address that is written over words w and w + 1 of block c
+  pub address-fits : (c w b : ℕ) → b ≤ π.e → address π.drive (pair v c w) b < 4294967296
+  address-fits c w b h = address-small π.drive (pair v c w) b (omega (arith, at .fits c .small w, at .fits c .small (w + 1))) (omega (arith, at .few))
+
   pub le-end : (b : ℕ) → inside π b ≡ true → b ≤ π.e
   le-end b i = inside-of π b i .1
 
@@ -60,5 +64,5 @@ module _ {π : Partition} {v : View} (at : Placed π v) where
   pub less-lawful : (g n : ℕ) → inside π g ≡ true → Lawful π v π.s (pibLess π.drive v π.s g n)
   unfolding pibLess
   less-lawful g n i = at-pib
-      (put2-fits 8 _ (omega arith) (lda-fits g (le-end g i)) (put2-fits 12 (pair v π.s numberFreeAt - n) (omega arith) (omega (arith, number-small)) (at .fits π.s)))
+      (put2-fits 8 _ (omega arith) (address-fits π.s 8 g (le-end g i)) (put2-fits 12 (pair v π.s numberFreeAt - n) (omega arith) (omega (arith, number-small)) (at .fits π.s)))
       (λ w l. put2-off 8 _ _ w (λ z. omega arith) (λ z. omega arith) ∙ put2-off 12 _ (v π.s) w (λ z. omega arith) (λ z. omega arith))

@@ -9,11 +9,12 @@ use native.Mathlib.Omega.{arith}
 use lib.Dec.{leb, ltb, eqb}
 use borrow.Author.Tests.{eqb-true, eqb-false, lt-ltb, le-ltb, lt-leb}
 use Rattle.base.specs.Tests.{pick, both, headOf, lastOf}
+use Rattle.drive.specs.Address.{isLda}
 use Rattle.image.specs.View.{upd-same, upd-other, View, Rec, after, upd, pair}
 use Rattle.image.specs.Saves.{withData, withText}
 use Rattle.volume.specs.Keys.{home, up, slot}
 use Rattle.volume.specs.KeyLaws.{up-most, slot-fib, number-fib}
-use Rattle.volume.specs.Files.{isLda, inside, candidate, spot, present, wellFormed, key, owned, free, freeHead, sound}
+use Rattle.volume.specs.Files.{inside, candidate, spot, present, wellFormed, key, owned, free, freeHead, sound}
 use Rattle.volume.specs.declared.Partition.{Partition}
 use Rattle.volume.specs.Index.{spot-home, present-home, member, member-owned, file-back, key-back, present-few}
 use Rattle.volume.specs.Frame.{SameHead, head-of, Shape, Clean, Formed, kept-present, kept-spot, kept-wellFormed, agree-clean, agree-owned}

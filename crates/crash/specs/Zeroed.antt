@@ -1,5 +1,5 @@
 -- Repair of an all-zero partition with Start and End set makes a fresh one: it is sound, has no file, and s+1, s+2, .. e are free in this
--- order. On every drive, for every s and e.
+-- order. On every drive, for every s and e, and whatever the reserved bits of Start and End.
 use mathlib.Core.Path.{_≡_, refl, sym, ap, _∙_, subst}
 use mathlib.Core.Logic.{_≢_}
 use mathlib.Core.List.{List, [], _∷_}
@@ -12,12 +12,13 @@ use borrow.Author.Tests.{eqb-true, eq-eqb, ne-eqb, lt-ltb, le-leb}
 use Rattle.base.specs.Tests.{pick, both, count, tabFrom, those, lastOf, headOf}
 use Rattle.base.specs.Laws.{every-at, both-left, both-right, both-of}
 use Rattle.base.specs.declared.Refusal.the-variants.{Unsound, NothingFree}
-use Rattle.drive.specs.Address.{lda}
+use Rattle.drive.specs.Address.{lda, address}
 use Rattle.drive.specs.Laws.{pda-pos}
+use Rattle.drive.specs.Names.{nil-new}
 use Rattle.image.specs.View.{View, Rec, after, pair, put, put2, blank}
 use Rattle.image.specs.Image.{view}
 use Rattle.volume.specs.Words.{serialAt, relativeAt, fillerAt, nextAt, previousAt, freeHeadAt, freeTailAt, numberFreeAt, partitionStartAt, partitionEndAt}
-use Rattle.volume.specs.Files.{partitionOf, isLda, address, inside, candidate, wellFormed, isFile, owned, files, unowned, free, sound, blockAt}
+use Rattle.volume.specs.Files.{partitionOf, inside, candidate, wellFormed, isFile, owned, files, unowned, free, sound, blockAt}
 use Rattle.volume.specs.declared.Partition.{Partition}
 use Rattle.volume.specs.Frame.{Clean, of-clean}
 use Rattle.volume.specs.Reads.{candidate-in}
@@ -28,6 +29,7 @@ use Rattle.volume.specs.Calls.{Planned, refuse, finish, repair, repairIn, plann
 use Rattle.volume.specs.declared.Outcome.the-variants.{Done, Refused}
 use Rattle.volume.specs.declared.Part.{Part}
 use Rattle.volume.specs.declared.Part.the-variants as part
+use Rattle.frame.specs.Reading.{put2-off}
 use Rattle.frame.specs.Mended.{mended-agree, free-is, sound-is}
 use Rattle.frame.specs.Repair.{repaired-free}
 use Rattle.frame.specs.Restart.{target, target-else, target-pib, repair-of, after-val, hits-tab-in, hits-pib}
@@ -40,22 +42,22 @@ use Rattle.crash.specs.Statement.{Image, whole}
 
 -- ---- the statement
 
--- the records of the partition: the PIB with Start and End, and blank ones
-abbrev pub zeroedPib : Partition → Rec
-zeroedPib π = put2 partitionStartAt (lda (π .drive) (π .s)) (put2 partitionEndAt (lda (π .drive) (π .e)) blank)
+-- the records of the partition: the PIB with x as Start and y as End, their reserved bits included, and blank ones
+abbrev pub zeroedPib : ℕ → ℕ → Rec
+zeroedPib x y = put2 partitionStartAt x (put2 partitionEndAt y blank)
 
-unfoldable pub zeroed : Partition → View
-zeroed π b = pick (eqb b (π .s)) (zeroedPib π) blank
+unfoldable pub zeroed : Partition → ℕ → ℕ → View
+zeroed π x y b = pick (eqb b (π .s)) (zeroedPib x y) blank
 
 -- a view that has them in s..e
-abbrev pub Zeroed : Partition → View → Type 0
-Zeroed π v = (b : ℕ) → π .s ≤ b → b ≤ π .e → v b ≡ zeroed π b
+abbrev pub Zeroed : Partition → ℕ → ℕ → View → Type 0
+Zeroed π x y v = (b : ℕ) → π .s ≤ b → b ≤ π .e → v b ≡ zeroed π x y b
 
 -- s+1, s+2, .. e
 abbrev pub ascending : Partition → List ℕ
 ascending π = tabFrom (suc (π .s)) (π .e - π .s) (λ b. b)
 
-pub record Fresh (π : Partition) (v : View) : Type 0 where
+pub record Fresh (π : Partition) (x y : ℕ) (v : View) : Type 0 where
   pub ok : sound π v ≡ true
   pub no-files : files π v ≡ []
   pub chain : free π v ≡ ascending π
@@ -63,7 +65,7 @@ pub record Fresh (π : Partition) (v : View) : Type 0 where
   pub head : pair v (π .s) freeHeadAt ≡ lda (π .drive) (suc (π .s))
   pub tail : pair v (π .s) freeTailAt ≡ lda (π .drive) (π .e)
   pub number : pair v (π .s) numberFreeAt ≡ π .e - π .s
-  pub pib : v (π .s) ≡ put2 freeHeadAt (lda (π .drive) (suc (π .s))) (put2 freeTailAt (lda (π .drive) (π .e)) (put2 numberFreeAt (π .e - π .s) (zeroedPib π)))
+  pub pib : v (π .s) ≡ put2 freeHeadAt (lda (π .drive) (suc (π .s))) (put2 freeTailAt (lda (π .drive) (π .e)) (put2 numberFreeAt (π .e - π .s) (zeroedPib x y)))
   pub serials : (b : ℕ) → π .s < b → b ≤ π .e → pair v b serialAt ≡ 0
   pub relatives : (b : ℕ) → π .s < b → b ≤ π .e → v b relativeAt ≡ 0
   pub fillers : (b : ℕ) → π .s < b → b ≤ π .e → v b fillerAt ≡ asFiller (suc (π .s))
@@ -112,14 +114,6 @@ tab-length i (suc k) = omega (arith, tab-length (suc i) k)
 word : (x : ℕ) → x % 65536 + 65536 * (x / 65536) ≡ x
 word x = omega arith
 
-address-is : (d o b : ℕ) → address d o b ≡ lda d b
-unfolding address isLda
-address-is d o b = go (eqb o (lda d b)) refl
-  where
-    go : (t : Bool) → eqb o (lda d b) ≡ t → pick t o (lda d b) ≡ lda d b
-    go true q = eqb-true o (lda d b) q
-    go false q = refl
-
 freed-off : (a f n p : ℕ) (r : Rec) (w : ℕ) → 8 ≤ w → put2 serialAt a (put fillerAt f (put2 nextAt n (put2 previousAt p r))) w ≡ r w
 unfolding put put2
 freed-off a f n p r w m =
@@ -137,14 +131,22 @@ no-owner π v h b = go (owned π v b) refl
 
 -- ---- the partition before repair
 
-module _ (π : Partition) (v : View) (z : Zeroed π v) where
+module _ (π : Partition) (x y : ℕ) (v : View) (z : Zeroed π x y v) where
   empty : (b : ℕ) → π .s < b → b ≤ π .e → v b ≡ blank
   unfolding zeroed
-  empty b l m = z b (omega arith) m ∙ ap (λ (t : Bool). pick t (zeroedPib π) blank) (ne-eqb b (π .s) (λ q. omega arith))
+  empty b l m = z b (omega arith) m ∙ ap (λ (t : Bool). pick t (zeroedPib x y) blank) (ne-eqb b (π .s) (λ q. omega arith))
 
-  pib-before : π .s ≤ π .e → v (π .s) ≡ zeroedPib π
+  pib-before : π .s ≤ π .e → v (π .s) ≡ zeroedPib x y
   unfolding zeroed
-  pib-before m = z (π .s) (omega arith) m ∙ ap (λ (t : Bool). pick t (zeroedPib π) blank) (eq-eqb (π .s) (π .s) refl)
+  pib-before m = z (π .s) (omega arith) m ∙ ap (λ (t : Bool). pick t (zeroedPib x y) blank) (eq-eqb (π .s) (π .s) refl)
+
+  -- FreeHead and FreeTail are nil, so that what is written over them is clean
+  nil-before : π .s ≤ π .e → (w b : ℕ) → w < 12 → address (π .drive) (pair v (π .s) w) b ≡ lda (π .drive) b
+  unfolding blank
+  nil-before m w b l = nil-new (π .drive) (pair v (π .s) w) b (omega (arith, word w (omega arith), word (w + 1) (omega arith)))
+    where
+      word : (i : ℕ) → i < 14 → v (π .s) i ≡ 0
+      word i l = ap (λ (r : Rec). r i) (pib-before m) ∙ put2-off partitionStartAt x _ i (λ q. omega arith) (λ q. omega arith) ∙ put2-off partitionEndAt y blank i (λ q. omega arith) (λ q. omega arith)
 
   no-candidate : (f : ℕ) → candidate π v f ≡ false
   unfolding candidate blank
@@ -218,20 +220,20 @@ module _ (π : Partition) (v : View) (z : Zeroed π v) where
       few : 0 < π .e - π .s
       few = omega arith
 
-      pib-after : mended (π .s) ≡ put2 freeHeadAt (lda (π .drive) (suc (π .s))) (put2 freeTailAt (lda (π .drive) (π .e)) (put2 numberFreeAt (π .e - π .s) (zeroedPib π)))
+      pib-after : mended (π .s) ≡ put2 freeHeadAt (lda (π .drive) (suc (π .s))) (put2 freeTailAt (lda (π .drive) (π .e)) (put2 numberFreeAt (π .e - π .s) (zeroedPib x y)))
       unfolding repairedPib
       pib-after = pib-is ∙ (λ i. put2 freeHeadAt (first i) (put2 freeTailAt (last i) (put2 numberFreeAt (size i) (words i))))
         where
           first : address (π .drive) (pair v (π .s) freeHeadAt) (headOf 0 (unowned π v)) ≡ lda (π .drive) (suc (π .s))
-          first = address-is (π .drive) _ _ ∙ ap (lda (π .drive)) (ap (headOf 0) unowned-all ∙ tab-head (suc (π .s)) (π .e - π .s) few)
+          first = nil-before (omega arith) freeHeadAt (headOf 0 (unowned π v)) (omega arith) ∙ ap (lda (π .drive)) (ap (headOf 0) unowned-all ∙ tab-head (suc (π .s)) (π .e - π .s) few)
 
           last : address (π .drive) (pair v (π .s) freeTailAt) (lastOf 0 (unowned π v)) ≡ lda (π .drive) (π .e)
-          last = address-is (π .drive) _ _ ∙ ap (lda (π .drive)) (ap (lastOf 0) unowned-all ∙ omega (arith, tab-last 0 (suc (π .s)) (π .e - π .s) few))
+          last = nil-before (omega arith) freeTailAt (lastOf 0 (unowned π v)) (omega arith) ∙ ap (lda (π .drive)) (ap (lastOf 0) unowned-all ∙ omega (arith, tab-last 0 (suc (π .s)) (π .e - π .s) few))
 
           size : length (unowned π v) ≡ π .e - π .s
           size = ap length unowned-all ∙ tab-length (suc (π .s)) (π .e - π .s)
 
-          words : v (π .s) ≡ zeroedPib π
+          words : v (π .s) ≡ zeroedPib x y
           words = pib-before (omega arith)
 
       head-after : pair mended (π .s) freeHeadAt ≡ lda (π .drive) (suc (π .s))
@@ -266,7 +268,7 @@ module _ (π : Partition) (v : View) (z : Zeroed π v) where
             ∙ freed-off _ _ _ _ (v b) w k
             ∙ ap (λ (r : Rec). r w) (empty b l m)
 
-      fresh-after : Fresh π mended
+      fresh-after : Fresh π x y mended
       unfolding files
       fresh-after = record {
         ok = sound-after;
@@ -286,24 +288,25 @@ module _ (π : Partition) (v : View) (z : Zeroed π v) where
 -- ---- the theorem, of views and of images
 
 -- M12's partition is one
-pub worked-zeroed : Zeroed table.seven table.zeroed
+pub worked-zeroed : Zeroed table.seven (lda 0 1) (lda 0 7) table.zeroed
 unfolding zeroed table.zeroed
 worked-zeroed b l m = refl
 
-pub becomes-fresh : (π : Partition) (v : View) → 1 ≤ π .s → π .s < π .e → Zeroed π v
-    → (repairIn π v .outcome ≡ Done 0 0 0) × Fresh π (after (repairIn π v .list) v)
-becomes-fresh π v p g z =
-    (ap (λ (x : Planned). x .outcome) (done π v z g), subst (λ (x : Planned). Fresh π (after (x .list) v)) (sym (done π v z g)) (fresh-after π v z g p))
+pub becomes-fresh : (π : Partition) (x y : ℕ) (v : View) → 1 ≤ π .s → π .s < π .e → Zeroed π x y v
+    → (repairIn π v .outcome ≡ Done 0 0 0) × Fresh π x y (after (repairIn π v .list) v)
+becomes-fresh π x y v p g z =
+    let q = done π x y v z g in
+    (ap (λ (k : Planned). k .outcome) q, subst (λ (k : Planned). Fresh π x y (after (k .list) v)) (sym q) (fresh-after π x y v z g p))
 
 -- an image with a good partition that is all zero but for Start and End: repair is done, and check of what it leaves counts no file,
 -- no owned block and e - s free ones
-pub repaired-fresh : (d s e : ℕ) (l : List ℕ) → Image l → partition d l s ≡ part.Good e → Zeroed (partitionOf d s e) (view l)
-    → (planned d l s repair .outcome ≡ Done 0 0 0) × Fresh (partitionOf d s e) (view (whole d s l repair)) × (checked d (whole d s l repair) s ≡ Done 0 0 (e - s))
+pub repaired-fresh : (d s e x y : ℕ) (l : List ℕ) → Image l → partition d l s ≡ part.Good e → Zeroed (partitionOf d s e) x y (view l)
+    → (planned d l s repair .outcome ≡ Done 0 0 0) × Fresh (partitionOf d s e) x y (view (whole d s l repair)) × (checked d (whole d s l repair) s ≡ Done 0 0 (e - s))
 unfolding checked
-repaired-fresh d s e l b q z = (
-  ap (λ (x : Planned). x .outcome) (repair-is h c n),
+repaired-fresh d s e x y l b q z = (
+  ap (λ (k : Planned). k .outcome) (repair-is h c n),
   fresh,
-  ap (λ (x : Part). inPartition Refused x (λ (e : ℕ). checkIn (partitionOf d s e) (view (whole d s l repair)))) (mended-held h c n .good) ∙ fresh .checks,
+  ap (λ (k : Part). inPartition Refused k (λ (e : ℕ). checkIn (partitionOf d s e) (view (whole d s l repair)))) (mended-held h c n .good) ∙ fresh .checks,
 )
   where
     π : Partition
@@ -313,10 +316,10 @@ repaired-fresh d s e l b q z = (
     h = record { good = q; bytes = b }
 
     c : Clean (partitionOf d s e) (view l)
-    c = clean π (view l) z
+    c = clean π x y (view l) z
 
     n : unowned (partitionOf d s e) (view l) ≢ []
-    n = spare π (view l) z (placed h .low)
+    n = spare π x y (view l) z (placed h .low)
 
-    fresh : Fresh (partitionOf d s e) (view (whole d s l repair))
-    fresh = subst (Fresh (partitionOf d s e)) (sym (mended-view h c n)) (fresh-after (partitionOf d s e) (view l) z (placed h .low) (placed h .pos))
+    fresh : Fresh (partitionOf d s e) x y (view (whole d s l repair))
+    fresh = subst (Fresh (partitionOf d s e) x y) (sym (mended-view h c n)) (fresh-after (partitionOf d s e) x y (view l) z (placed h .low) (placed h .pos))

@@ -8,11 +8,11 @@ use lib.ListN.{length, getD, take, drop, replicate}
 use Rattle.base.specs.Tests.{pick, both, every, all}
 use Rattle.base.specs.declared.Refusal.{Refusal}
 use Rattle.base.specs.declared.Refusal.the-variants.{BadBuffer, NoCandidate, TooDeep}
-use Rattle.drive.specs.Address.{ldaBlock}
+use Rattle.drive.specs.Address.{ldaBlock, isLda}
 use Rattle.image.specs.View.{pair}
 use Rattle.image.specs.Image.{view}
 use Rattle.volume.specs.Words.{dataOffset, fileTypeAt, rootAt}
-use Rattle.volume.specs.Files.{partitionOf, isLda, isFile, len, name}
+use Rattle.volume.specs.Files.{partitionOf, isFile, len, name}
 use Rattle.volume.specs.declared.Partition.{Partition}
 use Rattle.volume.specs.Answers.{lowest, partition, inPartition}
 use Rattle.volume.specs.declared.Found.{Found}
@@ -85,7 +85,7 @@ unfoldable pub isDirectory : List ℕ → ℕ → Bool
 isDirectory l f = eqb (view l f fileTypeAt) 3
 
 module _ (π : Partition) (l : List ℕ) where
-  -- the file that x is the LDA of
+  -- the file that x decodes to as an LDA
   unfoldable pub fileAt : ℕ → Found
   fileAt x = let t = ldaBlock (π .drive) x in pick (both (isLda (π .drive) x t) (isFile π (view l) t)) (At t) Nothing
 

@@ -1,6 +1,6 @@
 -- One law for each way through the code that reads an entry.
 use mathlib.Core.Path.{_≡_, refl, sym, ap, _∙_}
-use mathlib.Core.Bool.{Bool, true, false}
+use mathlib.Core.Bool.{Bool, true, false, not}
 use mathlib.Core.List.{List, [], _∷_}
 use Prim.Native.Nat.{ℕ, _+_, _-_, _*_, _/_, _%_, _≤_, _<_}
 use native.Mathlib.Omega.{arith}
@@ -12,11 +12,11 @@ use borrow.Author.Tests.{lt-leb, le-leb, leb-true, ne-eqb, eq-eqb, eqb-true, not
 use borrow.Author.Needs.{needs}
 use Rattle.base.specs.Tests.{pick, both, every}
 use Rattle.base.specs.Laws.{both-right, every-at}
-use Rattle.drive.specs.Address.{lda, ldaBlock}
+use Rattle.drive.specs.Address.{ldaBlock, isLda}
 use Rattle.image.specs.View.{pair}
 use Rattle.image.specs.Image.{view}
 use Rattle.volume.specs.Words.{fileTypeAt}
-use Rattle.volume.specs.Files.{isFile, isLda, name}
+use Rattle.volume.specs.Files.{isFile, name}
 use Rattle.volume.specs.declared.Partition.{Partition}
 use Rattle.volume.specs.Steps.{every-no, and-true, Passed, pass-next, pass-fails, pass-end, ne-of, eq-of}
 use Rattle.volume.specs.declared.Found.{Found}
@@ -148,19 +148,19 @@ pub ruleset takes = (taken-even, taken-short, taken-long, taken-last, needs)
 
 -- ---- the target of an address
 
-module _ (π : Partition) (l : List ℕ) (x t y : ℕ) (p : t ≡ ldaBlock (π .drive) x) (q : y ≡ lda (π .drive) t) where
-  pub target-odd : (y ≡ x → ⊥) → Nothing ≡ fileAt π l x
-  unfolding fileAt both isLda
-  target-odd h = rw (fileAt, isLda, ne-eqb x (lda (π .drive) (ldaBlock (π .drive) x)) (λ z. h (q ∙ ap (lda (π .drive)) p ∙ sym z)), both)
+module _ (π : Partition) (l : List ℕ) (x t : ℕ) (g : Bool) (p : t ≡ ldaBlock (π .drive) x) (q : g ≡ isLda (π .drive) x t) where
+  pub target-odd : not g ≡ true → Nothing ≡ fileAt π l x
+  unfolding fileAt both
+  target-odd h = rw (fileAt, ← p, ← q, not-true g h, both)
 
-  known : (r : Bool) → r ≡ isFile π (view l) t → y ≡ x → pick r (At t) Nothing ≡ fileAt π l x
-  unfolding fileAt both isLda
-  known r z h = rw (fileAt, isLda, eq-eqb x (lda (π .drive) (ldaBlock (π .drive) x)) (sym h ∙ q ∙ ap (lda (π .drive)) p), both, ← p, ← z)
+  known : (r : Bool) → r ≡ isFile π (view l) t → not g ≡ false → pick r (At t) Nothing ≡ fileAt π l x
+  unfolding fileAt both
+  known r z h = rw (fileAt, ← p, ← q, not-false g h, both, ← z)
 
-  pub target-file : (r : Bool) → r ≡ isFile π (view l) t → r ≡ true → y ≡ x → At t ≡ fileAt π l x
+  pub target-file : (r : Bool) → r ≡ isFile π (view l) t → r ≡ true → not g ≡ false → At t ≡ fileAt π l x
   target-file r z u h = rw u at (known r z h)
 
-  pub target-none : (r : Bool) → r ≡ isFile π (view l) t → r ≡ false → y ≡ x → Nothing ≡ fileAt π l x
+  pub target-none : (r : Bool) → r ≡ isFile π (view l) t → r ≡ false → not g ≡ false → Nothing ≡ fileAt π l x
   target-none r z u h = rw u at (known r z h)
 
 pub ruleset targets = (target-odd, target-file, target-none, needs)

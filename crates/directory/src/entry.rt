@@ -116,13 +116,13 @@ pub fn taken(img: &[u8], rule: &[u8], r: usize, at: usize) -> bool
     selected(rule, &img[from..end], r)
 }
 
-// The file that x is the LDA of, or none.
+// The file that x decodes to as an LDA, or none.
 pub fn file_at(img: &[u8], p: Partition, x: usize) -> Found
     requires { ⌜ (Lies p (now img)) × (x < 4294967296) ⌝ }
     ensures { λ r. ⌜ r ≡ fileAt p (now (img .entry)) x ⌝ }
 {
     let t = drive::lda_block(p.drive, x);
-    if drive::lda(p.drive, t) != x {
+    if !drive::is_lda(p.drive, x, t) {
         return Found::Nothing;
     }
     if inspect::is_file(img, p, t) {

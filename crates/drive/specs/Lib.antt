@@ -5,3 +5,4 @@ pub mod Answers
 pub mod Laws
 pub mod Wording
 pub mod Fits
+pub mod Names

@@ -1,9 +1,9 @@
 // Addresses of blocks on the four drives. An address of two words is one number, low word + 65536 * high word.
 ghost use mathlib.Core.Path.{_≡_};
 ghost use Prim.Native.Nat.{_-_, _*_, _<_, _≤_};
-ghost use Rattle.drive.specs.Address.{blocks, pda, pdaBlock, orNil, lda, ldaBlock, fileId, fileIdBlock, fileIds};
+ghost use Rattle.drive.specs.Address.{blocks, pda, pdaBlock, orNil, lda, ldaBlock, isLda, address, fileId, fileIdBlock, fileIds};
 ghost use Rattle.drive.specs.Answers.{converted, lbnToPda, pdaToLbn, lbnToLda, ldaToLbn, lbnToFileId, fileIdToLbn};
-ghost use lib.Dec.{ltb, eqb};
+ghost use lib.Dec.{ltb};
 ghost use Rattle.base.specs.Tests.{both};
 use base::Refusal;
 
@@ -101,6 +101,22 @@ pub fn lda_block(drive: usize, x: usize) -> usize
     }
 }
 
+// Whether x decodes to block b as a logical address, whatever its reserved bits.
+pub fn is_lda(drive: usize, x: usize, b: usize) -> bool
+    requires { ⌜ b < 4294967296 ⌝ }
+    ensures { λ r. ⌜ r ≡ isLda drive x b ⌝ }
+{
+    x / 256 * 256 == lda(drive, b)
+}
+
+// The logical address of block b as it is written over `old`, which stays where it names b already.
+pub fn address(drive: usize, old: usize, b: usize) -> usize
+    requires { ⌜ (old < 4294967296) × (b < 69552) ⌝ }
+    ensures { λ r. ⌜ (r ≡ address drive old b) × (r < 4294967296) ⌝ }
+{
+    if is_lda(drive, old, b) { old } else { lda(drive, b) }
+}
+
 fn wide(x: u32) -> usize
     ensures { λ r. ⌜ (r ≡ x) × (r < 4294967296) ⌝ }
 {
@@ -121,11 +137,11 @@ fn answer(drive: usize, good: bool, x: usize) -> Converted
     }
 }
 
-// Whether block b, the only one that can have the address x and whose address is y, has it.
-fn meets(b: usize, count: usize, y: usize, x: usize) -> bool
-    ensures { λ r. ⌜ r ≡ both (ltb b count) (eqb y x) ⌝ }
+// Whether block b, the only one that can have an address, is one of the drive's and has it.
+fn meets(b: usize, count: usize, has: bool) -> bool
+    ensures { λ r. ⌜ r ≡ both (ltb b count) has ⌝ }
 {
-    if b < count { y == x } else { false }
+    if b < count { has } else { false }
 }
 
 // LBN to physical address.
@@ -144,7 +160,7 @@ pub fn pda_to_lbn(drive: u32, address: u32) -> Converted
     let d = wide(drive);
     let x = wide(address);
     let b = pda_block(d, x);
-    answer(d, meets(b, blocks(d), pda(d, b), x), b)
+    answer(d, meets(b, blocks(d), pda(d, b) == x), b)
 }
 
 // LBN to logical address.
@@ -163,7 +179,7 @@ pub fn lda_to_lbn(drive: u32, address: u32) -> Converted
     let d = wide(drive);
     let x = wide(address);
     let b = lda_block(d, x);
-    answer(d, meets(b, blocks(d), lda(d, b), x), b)
+    answer(d, meets(b, blocks(d), is_lda(d, x, b)), b)
 }
 
 // The FileID of block b.
@@ -197,5 +213,5 @@ pub fn fileid_to_lbn(drive: u32, id: u32) -> Converted
     let d = wide(drive);
     let x = wide(id);
     let b = file_id_block(d, x);
-    answer(d, meets(b, file_ids(d), file_id(d, b), x), b)
+    answer(d, meets(b, file_ids(d), file_id(d, b) == x), b)
 }

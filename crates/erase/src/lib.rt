@@ -10,7 +10,6 @@ ghost use Rattle.volume.specs.Plans.{st, stores, gone, topGone, fibGone, topGon
 ghost use Rattle.volume.specs.Words.{nextAt, numberFreeAt};
 ghost use Rattle.records.specs.Records.{Block, StandsFor, Destroys};
 use image::Save;
-use records::lda_of;
 use records::pda_of;
 use volume::words::FILLER;
 use volume::words::FREE_TAIL;
@@ -100,7 +99,8 @@ fn pib_more_save(img: &[u8], drive: usize, s: usize, last: usize, n: usize) -> S
 {
     let m = image::pair(img, s, NUMBER_FREE) + n;
     let x = image::with_pair(image::record(img, s), NUMBER_FREE, m);
-    image::saved(s, image::with_pair(x, FREE_TAIL, lda_of(drive, last)))
+    let tail = drive::address(drive, image::pair(img, s, FREE_TAIL), last);
+    image::saved(s, image::with_pair(x, FREE_TAIL, tail))
 }
 
 // The stores of destroy: FIB, first block, last block, old free tail, PIB.

@@ -10,12 +10,12 @@ use lib.ListN.{length, length-append}
 use borrow.Author.Tests.{ltb-true, ltb-false, eqb-true, eqb-false, eq-eqb}
 use Rattle.base.specs.Tests.{pick, headOf, lastOf, occ}
 use Rattle.base.specs.Laws.{both-left, both-right, both-of}
-use Rattle.drive.specs.Address.{lda, orNil}
+use Rattle.drive.specs.Address.{orNil, isLda}
 use Rattle.image.specs.View.{View, Rec, pair, put2}
 use Rattle.volume.specs.Words.{nextAt, previousAt}
-use Rattle.volume.specs.Files.{isLda, inside, within, owned, free, freeHead, chained, sound}
+use Rattle.volume.specs.Files.{inside, within, owned, free, freeHead, chained, sound}
 use Rattle.volume.specs.declared.Partition.{Partition}
-use Rattle.frame.specs.Repair.{lda-self}
+use Rattle.drive.specs.Names.{address-names}
 use Rattle.volume.specs.Plans.{freeAt, newFirst, pibLess}
 use Rattle.frame.specs.Reading.{two, put2-off, put2-here, put-off}
 use Rattle.frame.specs.Sound.{Starts, occ-here, occ-more, after₁, firsts, free-starts, free-in, free-not, free-once, sound-once, sound-within, sound-chained, sound-tail, sound-number}
@@ -158,22 +158,22 @@ module _ (π : Partition) (v : View) (so : sound π v ≡ true) (n : ℕ) (room 
       inn = within-end π (firsts π v n (freeHead π v)) left (sym (ap (within π) free-is) ∙ sound-within π v so);
       ways = ways;
       once = once;
-      head = ap (λ (x : ℕ). isLda (π .drive) x (freeAt π v n)) (ap (λ (x : Rec). two x 8) (d .pib) ∙ put2-here 8 _ _) ∙ lda-self π (freeAt π v n);
-      tail = ap₂ (isLda (π .drive)) (ap (λ (x : Rec). two x 10) (d .pib) ∙ pair-off 10 (omega arith) (omega arith)) (sym (last-both 0 (firsts π v n (freeHead π v)) left) ∙ sym (ap (lastOf 0) free-is)) ∙ sound-tail π v so;
-      number = ap (λ (x : Rec). two x 12) (d .pib) ∙ number;
+      head = ap (λ (x : ℕ). isLda (π .drive) x (freeAt π v n)) (ap (λ (x : Rec). two x 8) (d .pib) ∙ put2-here 8 _ _) ∙ address-names (π .drive) _ (freeAt π v n);
+      tail = ap₂ (isLda (π .drive)) (ap (λ (x : Rec). two x 10) (d .pib) ∙ pair-off _ 10 (omega arith) (omega arith)) (sym (last-both 0 (firsts π v n (freeHead π v)) left) ∙ sym (ap (lastOf 0) free-is)) ∙ sound-tail π v so;
+      number = ap (λ (x : Rec). two x 12) (d .pib) ∙ number _;
       some = omega arith;
     }
       where
         base : Rec
         base = put2 12 (pair v (π .s) 12 - n) (v (π .s))
 
-        pair-off : (x : ℕ) → 10 ≤ x → x < 11 → two (put2 8 (lda (π .drive) (freeAt π v n)) base) x ≡ pair v (π .s) x
-        pair-off x l m = ap₂ (λ (y z : ℕ). y + 65536 * z)
+        pair-off : (a x : ℕ) → 10 ≤ x → x < 11 → two (put2 8 a base) x ≡ pair v (π .s) x
+        pair-off a x l m = ap₂ (λ (y z : ℕ). y + 65536 * z)
             (put2-off 8 _ base x (λ z. omega arith) (λ z. omega arith) ∙ put2-off 12 _ (v (π .s)) x (λ z. omega arith) (λ z. omega arith))
             (put2-off 8 _ base (x + 1) (λ z. omega arith) (λ z. omega arith) ∙ put2-off 12 _ (v (π .s)) (x + 1) (λ z. omega arith) (λ z. omega arith))
 
-        number : two (put2 8 (lda (π .drive) (freeAt π v n)) base) 12 ≡ length (freeAt π v n ∷ s .rest)
-        number =
+        number : (a : ℕ) → two (put2 8 a base) 12 ≡ length (freeAt π v n ∷ s .rest)
+        number a =
             ap₂ (λ (y z : ℕ). y + 65536 * z) (put2-off 8 _ base 12 (λ z. omega arith) (λ z. omega arith)) (put2-off 8 _ base 13 (λ z. omega arith) (λ z. omega arith))
             ∙ put2-here 12 (pair v (π .s) 12 - n) (v (π .s))
             ∙ omega (arith, sound-number π v so, ap length free-is, length-append (firsts π v n (freeHead π v)) left, firsts-length π v n (freeHead π v))

@@ -9,17 +9,18 @@ use lib.Dec.{eqb}
 use lib.ListN.{length}
 use borrow.Author.Tests.{ltb-false, eqb-true, lt-ltb, le-ltb, eq-eqb, lt-leb, leb-false}
 use Rattle.base.specs.Tests.{pick, both, every, headOf, lastOf, occ, count}
+use Rattle.drive.specs.Address.{isLda}
 use Rattle.image.specs.View.{View, Rec, pair}
 use Rattle.base.specs.Laws.{cons-same, all-at, all-of, every-at, both-left, both-right, both-of}
 use Rattle.base.specs.Sums.{sum, sum-add, sum-nil, sum-most, sum-here, sum-same, count-sum}
 use Rattle.volume.specs.Words.{nextAt, previousAt, slotAt, freeHeadAt, freeTailAt, numberFreeAt}
 use Rattle.volume.specs.Keys.{home, number, child, first}
-use Rattle.volume.specs.Files.{isLda, inside, within, candidate, len, spot, present, wellFormed, owned, above, below, link, linkTest, linked, free, chain, chained, sound, freeSound, fileOf, blockAt}
+use Rattle.volume.specs.Files.{inside, within, candidate, len, spot, present, wellFormed, owned, above, below, link, linkTest, linked, free, chain, chained, sound, freeSound, fileOf, blockAt}
 use Rattle.volume.specs.declared.Partition.{Partition}
 use Rattle.volume.specs.Index.{span-at, span-of, unless-at, unless-of, or-at, or-of, present-low, present-high, member-owned, file-back}
 use Rattle.volume.specs.Frame.{Clean, Shape, kept-len, kept-present, kept-spot, kept-next, kept-prev}
 use Rattle.frame.specs.Reading.{two}
-use Rattle.frame.specs.Repair.{lda-block}
+use Rattle.drive.specs.Names.{lda-block}
 use Rattle.frame.specs.Chain.{chain-end, chain-on}
 use Rattle.volume.specs.Reads.{inside-of, or-pda, of-inside}
 use Rattle.frame.specs.Turn.{Turn}
@@ -127,7 +128,7 @@ module _ (π : Partition) where
   unfolding free headOf
   free-list v [] g h = absurd (omega (arith, h .some))
   free-list v (y ∷ l) g h =
-      ap (chain π v (π .e - (π .s))) (lda-block π _ y (h .head))
+      ap (chain π v (π .e - (π .s))) (lda-block (π .drive) _ y (h .head))
       ∙ chain-list v (π .e - (π .s)) 0 y l (h .inn) (h .ways) (pigeons π (y ∷ l) g (h .inn) (λ b n. most (owned π v b) (h .once b n)))
     where
       most : (t : Bool) {n : ℕ} → n ≡ pick t 0 1 → n ≤ 1

@@ -13,17 +13,18 @@ use borrow.Author.Tests.{ltb-false, lt-ltb, eq-eqb, le-leb, leb-false, not-true}
 use Rattle.base.specs.Tests.{pick, both, every, all, headOf, lastOf, occ}
 use Rattle.base.specs.Tests as tests
 use Rattle.base.specs.Laws.{cons-same, all-of, both-of}
-use Rattle.drive.specs.Address.{ldaBlock, orNil}
+use Rattle.drive.specs.Address.{ldaBlock, orNil, isLda}
+use Rattle.drive.specs.Names.{lda-block, address-names}
 use Rattle.image.specs.View.{View, Rec, Store, after, pair, put, put2}
 use Rattle.volume.specs.Words.{nextAt, previousAt}
 use Rattle.volume.specs.Keys.{home, child, first}
 use Rattle.volume.specs.KeyLaws.{child-pair}
-use Rattle.volume.specs.Files.{isLda, within, candidate, len, spot, present, wellFormed, fileOf, key, owned, unowned, above, below, link, tailTest, linkTest, linked, free, freeHead, chain, chained, sound, freeSound}
+use Rattle.volume.specs.Files.{within, candidate, len, spot, present, wellFormed, fileOf, key, owned, unowned, above, below, link, tailTest, linkTest, linked, free, freeHead, chain, chained, sound, freeSound}
 use Rattle.volume.specs.declared.Partition.{Partition}
 use Rattle.volume.specs.Index.{file-back, key-back, member-owned, owned-in, span-of, unless-of, or-of}
 use Rattle.volume.specs.Frame.{Shape, Clean, Formed, formed, Agree, kept-len, agree-clean, agree-owned, agree-fileOf, agree-key}
 use Rattle.volume.specs.Plans.{trimmed, shaped, content, relinked, freed, repaired, repairedPib, repairStores}
-use Rattle.frame.specs.Repair.{lda-block, address-names, links-off, mid-agree, repaired-mine, repaired-free}
+use Rattle.frame.specs.Repair.{links-off, mid-agree, repaired-mine, repaired-free}
 use Rattle.frame.specs.Restart.{Part, start, again, target, target-else, target-pib, repair-of, after-val, hits-tab-in, hits-pib, next-same, prev-same}
 use Rattle.frame.specs.Chain.{walk, Next, Prev, above-those, below-those, chained-those, within-those, occ-in}
 use Rattle.frame.specs.Reading.{word}
@@ -82,7 +83,7 @@ module _ (π : Partition) (v : View) (c : Clean π v) where
       head : freeHead π mended ≡ headOf 0 (unowned π v)
       head =
           ap (λ (r : Rec). (ldaBlock (π .drive)) (r 8 + 65536 * r 9)) mended-pib ∙ ap (ldaBlock (π .drive)) (word _)
-          ∙ lda-block π _ _ (address-names π _ (headOf 0 (unowned π v)))
+          ∙ lda-block (π .drive) _ _ (address-names (π .drive) _ (headOf 0 (unowned π v)))
 
   clean : Clean π mended
   clean = agree-clean π v mended c agree
@@ -200,8 +201,8 @@ module _ (π : Partition) (v : View) (c : Clean π v) where
         (cons-same (all-of ((π .e) - (π .s)) _ (λ i l. eq-eqb _ _ (once i l)))
         (cons-same in-it
         (cons-same both-ways
-        (cons-same (ap₂ (isLda (π .drive)) (ap (λ (r : Rec). r 8 + 65536 * r 9) mended-pib ∙ word _) (ap (headOf 0) free-eq) ∙ address-names π _ _)
-        (cons-same (ap₂ (isLda (π .drive)) (ap (λ (r : Rec). r 10 + 65536 * r 11) mended-pib ∙ word _) (ap (lastOf 0) free-eq) ∙ address-names π _ _)
+        (cons-same (ap₂ (isLda (π .drive)) (ap (λ (r : Rec). r 8 + 65536 * r 9) mended-pib ∙ word _) (ap (headOf 0) free-eq) ∙ address-names (π .drive) _ _)
+        (cons-same (ap₂ (isLda (π .drive)) (ap (λ (r : Rec). r 10 + 65536 * r 11) mended-pib ∙ word _) (ap (lastOf 0) free-eq) ∙ address-names (π .drive) _ _)
         (cons-same (eq-eqb _ _ (ap (λ (r : Rec). r 12 + 65536 * r 13) mended-pib ∙ word _ ∙ ap length (sym free-eq)))
         (cons-same {l = []} (lt-ltb _ _ (subst (λ (l : List ℕ). 0 < length l) (sym free-eq) (some _ n))) refl)))))))
 

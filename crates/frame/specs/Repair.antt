@@ -6,38 +6,19 @@ use mathlib.Core.Bool.{Bool, true, false}
 use Prim.Native.Nat.{ℕ, _<_}
 use native.Mathlib.Omega.{arith}
 use lib.Dec.{leb, ltb, eqb}
-use borrow.Author.Tests.{ltb-true, eqb-true, eq-eqb, ne-eqb, lt-leb}
+use borrow.Author.Tests.{ltb-true, eqb-true, ne-eqb, lt-leb}
 use Rattle.base.specs.Tests.{pick, both}
-use Rattle.drive.specs.Address.{lda, ldaBlock}
-use Rattle.drive.specs.Laws.{lda-back}
 use Rattle.image.specs.View.{View, Rec, put, put2}
 use Rattle.volume.specs.Words.{nextAt, previousAt}
 use Rattle.volume.specs.Keys.{home, child, first, low}
-use Rattle.volume.specs.Files.{inside, isLda, address, owned, unowned}
+use Rattle.volume.specs.Files.{inside, owned, unowned}
 use Rattle.volume.specs.declared.Partition.{Partition}
 use Rattle.volume.specs.Index.{owned-not-pib}
 use Rattle.volume.specs.Frame.{Clean, Agree}
 use Rattle.frame.specs.Soft.{headed, headed-zero, tallyWord, spare, Soft, Quiet, soft-refl, soft-agree}
 use Rattle.volume.specs.Plans.{trimmed, shaped, content, relinked, freed, repaired}
 use Rattle.volume.specs.Steps.{both-no-2}
-use Rattle.volume.specs.Reads.{address-lda, off-pib}
-
--- ---- addresses that are written
-
-pub lda-self : (π : Partition) (b : ℕ) → isLda (π .drive) (lda (π .drive) b) b ≡ true
-unfolding isLda
-lda-self π b = eq-eqb (lda (π .drive) b) (lda (π .drive) b) refl
-
--- what decodes to b is decoded as b
-pub lda-block : (π : Partition) (x b : ℕ) → isLda (π .drive) x b ≡ true → ldaBlock (π .drive) x ≡ b
-unfolding isLda
-lda-block π x b h = ap (ldaBlock (π .drive)) (eqb-true _ _ h) ∙ lda-back (π .drive) b
-
-pub address-names : (π : Partition) (o b : ℕ) → isLda (π .drive) (address (π .drive) o b) b ≡ true
-address-names π o b = ap (λ (x : ℕ). isLda (π .drive) x b) (address-lda (π .drive) o b) ∙ lda-self π b
-
-pub address-twice : (π : Partition) (o b : ℕ) → address (π .drive) (address (π .drive) o b) b ≡ address (π .drive) o b
-address-twice π o b = address-lda (π .drive) _ b ∙ sym (address-lda (π .drive) o b)
+use Rattle.volume.specs.Reads.{off-pib}
 
 -- ---- what repair leaves
 

@@ -9,15 +9,17 @@ use lib.Dec.{eqb}
 use lib.ListN.{take, length}
 use borrow.Author.Tests.{eqb-true, eqb-false, eq-eqb, ne-eqb}
 use Rattle.base.specs.Tests.{pick, tabFrom, headOf, lastOf}
+use Rattle.drive.specs.Address.{address}
+use Rattle.drive.specs.Names.{address-twice}
 use Rattle.image.specs.View.{View, Rec, Store, after, upd, pair, put, put2}
 use Rattle.base.specs.Laws.{pick-same}
 use Rattle.volume.specs.Words.{nextAt, previousAt, freeHeadAt, freeTailAt}
-use Rattle.volume.specs.Files.{address, len, fileOf, key, owned, unowned, above, below, link}
+use Rattle.volume.specs.Files.{len, fileOf, key, owned, unowned, above, below, link}
 use Rattle.volume.specs.declared.Partition.{Partition}
 use Rattle.volume.specs.Index.{own, file-candidate, owned-not-pib}
 use Rattle.volume.specs.Frame.{Shape, Clean, Formed, formed, kept-len, agree-owned, agree-unowned, agree-fileOf, agree-key, kept-next, kept-prev}
 use Rattle.volume.specs.Plans.{st, shaped, content, relinked, freed, repaired, repairedPib, repairPlan, stores, repairStores}
-use Rattle.frame.specs.Repair.{address-twice, links-off, shaped-twice, Mid, mid-agree, repaired-mine, repaired-free}
+use Rattle.frame.specs.Repair.{links-off, shaped-twice, Mid, mid-agree, repaired-mine, repaired-free}
 use Rattle.frame.specs.Reading.{word}
 
 -- ---- stores that all write the record that R has for their block
@@ -219,7 +221,7 @@ module _ (π : Partition) (v : View) (c : Clean π v) where
           sym (ap (λ (r : Rec). r w) q ∙ simp (n0, n1, n2, n3, n4, n5)))))))))
         where
           one : (o x y b : ℕ) → x ≡ address (π .drive) o b % 65536 → y ≡ address (π .drive) o b / 65536 → address (π .drive) o b ≡ address (π .drive) (x + 65536 * y) b
-          one o x y b p q = sym (address-twice π o b) ∙ ap (λ (z : ℕ). address (π .drive) z b) (sym (word (address (π .drive) o b)) ∙ ap₂ (λ (a c : ℕ). a + 65536 * c) (sym p) (sym q))
+          one o x y b p q = sym (address-twice (π .drive) o b) ∙ ap (λ (z : ℕ). address (π .drive) z b) (sym (word (address (π .drive) o b)) ∙ ap₂ (λ (a c : ℕ). a + 65536 * c) (sym p) (sym q))
 
           head : address (π .drive) (pair v (π .s) freeHeadAt) (headOf 0 fr) ≡ address (π .drive) (pair v′ (π .s) freeHeadAt) (headOf 0 fr)
           head = one _ _ _ _ (ap (λ (r : Rec). r 8) q) (ap (λ (r : Rec). r 9) q)

@@ -10,13 +10,13 @@ use lib.ListN.{length}
 use borrow.Author.Tests.{ltb-true, eqb-true, eq-eqb}
 use Rattle.base.specs.Tests.{pick, both, all, headOf, lastOf, occ}
 use Rattle.base.specs.Laws.{every-at, both-left, both-right}
-use Rattle.drive.specs.Address.{pdaBlock, ldaBlock}
+use Rattle.drive.specs.Address.{pdaBlock, ldaBlock, isLda}
 use Rattle.image.specs.View.{View, pair}
 use Rattle.volume.specs.Words.{freeHeadAt, freeTailAt, nextAt, numberFreeAt}
-use Rattle.volume.specs.Files.{isLda, inside, within, candidate, wellFormed, owned, unowned, linked, fileTest, free, freeHead, chain, chained, sound, freeSound}
+use Rattle.volume.specs.Files.{inside, within, candidate, wellFormed, owned, unowned, linked, fileTest, free, freeHead, chain, chained, sound, freeSound}
 use Rattle.volume.specs.declared.Partition.{Partition}
 use Rattle.volume.specs.Frame.{Clean}
-use Rattle.frame.specs.Repair.{lda-block}
+use Rattle.drive.specs.Names.{lda-block}
 use Rattle.frame.specs.Chain.{occ-in}
 use Rattle.frame.specs.Soft.{cand-in}
 use Rattle.volume.specs.Reads.{inside-of, all-inside}
@@ -154,7 +154,7 @@ module _ (π : Partition) (v : View) (ok : sound π v ≡ true) where
   last-in = last-occ 0 (free π v) (sound-some π v ok)
 
   pub tail-is : (ldaBlock (π .drive)) (pair v (π .s) freeTailAt) ≡ lastOf 0 (free π v)
-  tail-is = lda-block π _ _ (sound-tail π v ok)
+  tail-is = lda-block (π .drive) _ _ (sound-tail π v ok)
 
   pub tail-free : 0 < occ ((ldaBlock (π .drive)) (pair v (π .s) freeTailAt)) (free π v)
   tail-free = subst (λ (x : ℕ). 0 < occ x (free π v)) (sym tail-is) last-in

@@ -8,11 +8,11 @@ use Rattle.base.specs.Tests.{pick}
 use Rattle.drive.specs.Address.{lda}
 use Rattle.image.specs.View.{View, Rec, pair}
 use Rattle.volume.specs.Keys.{home, up, slot}
-use Rattle.volume.specs.Files.{isLda, len, spot, present, entry, above, below}
+use Rattle.volume.specs.Files.{len, spot, present, entry, above, below}
 use Rattle.volume.specs.declared.Partition.{Partition}
 use Rattle.volume.specs.Index.{entry-at}
 use Rattle.volume.specs.Frame.{SameHead, head-of, head-trans}
-use Rattle.volume.specs.Writes.{over, needs, isNew, fresh, present′, spot′, above′, below′, least′, grown}
+use Rattle.volume.specs.Writes.{over, needs, isNew, fresh, present′, spot′, above′, below′, grown}
 use Rattle.frame.specs.Reading.{two}
 use Rattle.growth.specs.Ready.{Ready}
 use Rattle.growth.specs.Path.{placed, new-at, over-up, needs-some}
@@ -92,7 +92,7 @@ module _ (π : Partition) (v : View) (f r : ℕ) (dat : Rec) (ok : Ready π v f 
       last = ap (λ (x : Rec). two x 259) (d .fib) ∙ fib-last π v f r dat;
       used = ap (λ (x : Rec). x 257) (d .fib) ∙ fib-size π v f r dat;
       lowest = ap (λ (x : Rec). x 261) (d .fib) ∙ fib-low π v f r dat;
-      lowAt = ap (λ (x : Rec). isLda (π .drive) (two x 262) (spot′ π v f r (least′ π v f r))) (d .fib) ∙ fib-address π v f r dat;
+      lowAt = ap (λ (x : Rec). two x 262) (d .fib) ∙ fib-address π v f r dat;
     }
 
     -- ---- bytes

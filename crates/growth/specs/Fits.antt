@@ -10,16 +10,16 @@ use Rattle.base.specs.Tests.{pick}
 use Rattle.base.specs.Laws.{both-left}
 use Rattle.base.specs.Sums.{count-both}
 use Rattle.drive.specs.Address.{pda, lda}
-use Rattle.drive.specs.Fits.{pda-small, lda-small}
+use Rattle.drive.specs.Fits.{pda-small, lda-small, address-small}
 use Rattle.image.specs.View.{View, Rec}
 use Rattle.image.specs.Saves.{withData}
 use Rattle.image.specs.Stores.{Fits}
 use Rattle.volume.specs.Keys.{home, number, slot, low, span}
 use Rattle.volume.specs.KeyLaws.{slot-high, span-end, number-small}
-use Rattle.volume.specs.Files.{isLda, address, inside, spot}
+use Rattle.volume.specs.Files.{inside, spot}
 use Rattle.volume.specs.declared.Partition.{Partition}
 use Rattle.volume.specs.Plans.{freeAt}
-use Rattle.volume.specs.Writes.{put2If, over, counted, needs, isNew, fresh, present′, spot′, above′, below′, least′, size′, link′, empty, base, holds, entered, ended, body, grown}
+use Rattle.volume.specs.Writes.{put2If, over, counted, needs, isNew, fresh, present′, spot′, above′, below′, least′, size′, link′, lowAddress, empty, base, holds, entered, ended, body, grown}
 use Rattle.frame.specs.Soft.{cand-in}
 use Rattle.frame.specs.Fitting.{put-fits, put2-fits, blank-fits, Words, data-fits}
 use Rattle.growth.specs.Ready.{Ready}
@@ -53,14 +53,6 @@ module _ (π : Partition) (v : View) (f r : ℕ) (dat : Rec) (ok : Ready π v f 
   unfolding size′
   size-small = omega (arith, count-both (span (suc r)) (λ i. present′ π v f r (low (suc r) + i)), span-end (suc r), len-short π v f r (ok .file))
 
-  address-small : (a b : ℕ) → a < 4294967296 → b < 69552 → address (π .drive) a b < 4294967296
-  unfolding address
-  address-small a b l m = go (isLda (π .drive) a b)
-    where
-      go : (t : Bool) → pick t a (lda (π .drive) b) < 4294967296
-      go true = l
-      go false = lda-small (π .drive) b m
-
   entered-fits : (k : ℕ) {x : Rec} → Fits x → Fits (entered π v f r dat k x)
   unfolding entered
   entered-fits k h = one 0 (one 1 (one 2 h))
@@ -69,17 +61,19 @@ module _ (π : Partition) (v : View) (f r : ℕ) (dat : Rec) (ok : Ready π v f 
       one i h = if-fits (holds π v f r dat i k) (slot (over r i)) _ (omega (arith, slot-high (over r i)))
           (λ q. let l = leb-true (suc i) (needs π v f r) (both-left _ _ q) in lda-small (π .drive) _ (free-few i (omega arith))) h
 
-  ended-fits : {x : Rec} → Fits x → Fits (ended π v f r dat x)
-  unfolding ended
-  ended-fits h = put-fits 258 r (omega arith) (omega (arith, ok .file .far)) (put2-fits 259 _ (omega arith) (lda-small (π .drive) _ (free-few 0 (omega arith))) h)
-
-  counted-fits : {x : Rec} → Fits x → Fits (counted π (size′ π v f r) (number (least′ π v f r)) (spot′ π v f r (least′ π v f r)) x)
-  unfolding counted
-  counted-fits {x} h =
-      put-fits 257 _ (omega arith) size-small (put-fits 261 _ (omega arith) (number-small (least′ π v f r))
-      (put2-fits 262 _ (omega arith) (address-small _ _ (omega (arith, h .small 262, h .small 263)) (inside-few _ (spot-in π v f r ok _ (least′-there π v f r (ok .file) .1)))) h))
-
   module _ (vf : (b : ℕ) → Fits (v b)) (df : Words 256 dat) where
+    ended-fits : {x : Rec} → Fits x → Fits (ended π v f r dat x)
+    unfolding ended
+    ended-fits h =
+        put-fits 258 r (omega arith) (omega (arith, ok .file .far))
+        (put2-fits 259 _ (omega arith) (address-small (π .drive) _ _ (omega (arith, vf f .small 259, vf f .small 260)) (free-few 0 (omega arith))) h)
+
+    counted-fits : {x : Rec} → Fits x → Fits (counted (size′ π v f r) (number (least′ π v f r)) (lowAddress π v f r) x)
+    unfolding counted
+    counted-fits h =
+        put-fits 257 _ (omega arith) size-small (put-fits 261 _ (omega arith) (number-small (least′ π v f r))
+        (put2-fits 262 _ (omega arith) (address-small (π .drive) _ _ (omega (arith, vf f .small 262, vf f .small 263)) (inside-few _ (spot-in π v f r ok _ (least′-there π v f r (ok .file) .1)))) h))
+
     empty-fits : (k : ℕ) → Fits (empty π v f r dat k)
     unfolding empty
     empty-fits k =
@@ -99,7 +93,7 @@ module _ (π : Partition) (v : View) (f r : ℕ) (dat : Rec) (ok : Ready π v f 
     unfolding body
     body-fits k = go (eqb k home)
       where
-        go : (t : Bool) → Fits (pick t (counted π (size′ π v f r) (number (least′ π v f r)) (spot′ π v f r (least′ π v f r)) (ended π v f r dat (entered π v f r dat home (v f)))) (entered π v f r dat k (base π v f r dat k)))
+        go : (t : Bool) → Fits (pick t (counted (size′ π v f r) (number (least′ π v f r)) (lowAddress π v f r) (ended π v f r dat (entered π v f r dat home (v f)))) (entered π v f r dat k (base π v f r dat k)))
         go true = counted-fits (ended-fits (entered-fits home (vf f)))
         go false = entered-fits k (base-fits k)
 

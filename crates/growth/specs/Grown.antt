@@ -14,12 +14,12 @@ use Rattle.image.specs.Saves.{withData}
 use Rattle.volume.specs.Words.{lastBlockAt, lastAddressAt}
 use Rattle.volume.specs.Keys.{home, number, up, slot, child}
 use Rattle.volume.specs.KeyLaws.{child-slot, slot-low, slot-fib, up-most}
-use Rattle.volume.specs.Files.{isLda, spot, entry}
+use Rattle.volume.specs.Files.{spot, entry}
 use Rattle.volume.specs.declared.Partition.{Partition}
 use Rattle.volume.specs.Index.{spot-home}
 use Rattle.volume.specs.Plans.{freeAt}
-use Rattle.volume.specs.Writes.{put2If, over, counted, needs, newly, isNew, fresh, spot′, above′, below′, least′, size′, link′, empty, base, holds, entered, ended, body, grown}
-use Rattle.frame.specs.Repair.{links-off, address-names}
+use Rattle.volume.specs.Writes.{put2If, over, counted, needs, newly, isNew, fresh, above′, below′, least′, size′, link′, lastAddress, lowAddress, empty, base, holds, entered, ended, body, grown}
+use Rattle.frame.specs.Repair.{links-off}
 use Rattle.frame.specs.Reading.{two, put-off, put-here, put2-off, put2-here, put2If-off}
 use Rattle.growth.specs.Ready.{Behind}
 use Rattle.growth.specs.Path.{over-zero, over-up, new-not-home, over-pos, over-few, home-old}
@@ -37,24 +37,24 @@ module _ (π : Partition) (v : View) (f r : ℕ) (dat : Rec) where
       put2If-off _ _ _ _ w (h 0 (omega arith)) ∙ put2If-off _ _ _ _ w (h 1 (omega arith)) ∙ put2If-off _ _ _ x w (h 2 (omega arith))
 
   -- L and its address
-  pub ended-is : (x : Rec) → ended π v f r dat x ≡ put lastBlockAt r (put2 lastAddressAt (lda (π .drive) (freeAt π v 0)) x)
+  pub ended-is : (x : Rec) → ended π v f r dat x ≡ put lastBlockAt r (put2 lastAddressAt (lastAddress π v f r) x)
   unfolding ended
   ended-is x = refl
 
   ended-off : (w : ℕ) (x : Rec) → w ≢ 258 → w ≢ 259 → w ≢ 260 → ended π v f r dat x w ≡ x w
   ended-off w x a b c = ap (λ (y : Rec). y w) (ended-is x) ∙ put-off 258 _ _ w a ∙ put2-off 259 _ x w b c
 
-  counted-off : (z m a w : ℕ) (x : Rec) → w ≢ 257 → w < 261 → counted π z m a x w ≡ x w
+  counted-off : (z m a w : ℕ) (x : Rec) → w ≢ 257 → w < 261 → counted z m a x w ≡ x w
   unfolding counted
   counted-off z m a w x n l = put-off 257 _ _ w n ∙ put-off 261 _ _ w (λ z. omega arith) ∙ put2-off 262 _ x w (λ z. omega arith) (λ z. omega arith)
 
   body-home : (w : ℕ) → w ≢ 257 → w < 261 → body π v f r dat home w ≡ ended π v f r dat (entered π v f r dat home (v f)) w
   unfolding body
-  body-home w n l = counted-off (size′ π v f r) (number (least′ π v f r)) (spot′ π v f r (least′ π v f r)) w _ n l
+  body-home w n l = counted-off (size′ π v f r) (number (least′ π v f r)) (lowAddress π v f r) w _ n l
 
   pub body-inner : (k : ℕ) → k ≢ home → body π v f r dat k ≡ entered π v f r dat k (base π v f r dat k)
   unfolding body
-  body-inner k n = ap (λ (t : Bool). pick t (counted π (size′ π v f r) (number (least′ π v f r)) (spot′ π v f r (least′ π v f r)) (ended π v f r dat (entered π v f r dat home (v f)))) (entered π v f r dat k (base π v f r dat k))) (ne-eqb k home n)
+  body-inner k n = ap (λ (t : Bool). pick t (counted (size′ π v f r) (number (least′ π v f r)) (lowAddress π v f r) (ended π v f r dat (entered π v f r dat home (v f)))) (entered π v f r dat k (base π v f r dat k))) (ne-eqb k home n)
 
   pub base-new : (k : ℕ) → isNew π v f r k ≡ true → base π v f r dat k ≡ pick (eqb k (over r 0)) (withData dat (empty π v f r dat k)) (empty π v f r dat k)
   unfolding base
@@ -113,7 +113,7 @@ module _ (π : Partition) (v : View) (f r : ℕ) (dat : Rec) where
 
   -- ---- the FIB's numbers
 
-  fib-word : (w : ℕ) → 258 ≤ w → w < 261 → grown π v f r dat home w ≡ put lastBlockAt r (put2 lastAddressAt (lda (π .drive) (freeAt π v 0)) (entered π v f r dat home (v f))) w
+  fib-word : (w : ℕ) → 258 ≤ w → w < 261 → grown π v f r dat home w ≡ put lastBlockAt r (put2 lastAddressAt (lastAddress π v f r) (entered π v f r dat home (v f))) w
   fib-word w l m =
       grown-off home w (λ z. omega arith) (λ z. omega arith) (λ z. omega arith) (λ z. omega arith) ∙ body-home w (λ z. omega arith) m
       ∙ ap (λ (y : Rec). y w) (ended-is (entered π v f r dat home (v f)))
@@ -121,11 +121,11 @@ module _ (π : Partition) (v : View) (f r : ℕ) (dat : Rec) where
   pub fib-length : grown π v f r dat home 258 ≡ r
   fib-length = fib-word 258 (omega arith) (omega arith) ∙ put-here 258 r _
 
-  pub fib-last : two (grown π v f r dat home) 259 ≡ lda (π .drive) (freeAt π v 0)
+  pub fib-last : two (grown π v f r dat home) 259 ≡ lastAddress π v f r
   fib-last =
       ap₂ (λ (x y : ℕ). x + 65536 * y)
       (fib-word 259 (omega arith) (omega arith) ∙ put-off 258 r _ 259 (λ z. omega arith)) (fib-word 260 (omega arith) (omega arith) ∙ put-off 258 r _ 260 (λ z. omega arith))
-      ∙ put2-here 259 (lda (π .drive) (freeAt π v 0)) _
+      ∙ put2-here 259 (lastAddress π v f r) _
 
   -- ---- what is kept
 
@@ -144,7 +144,7 @@ module _ (π : Partition) (v : View) (f r : ℕ) (dat : Rec) where
       ap₂ (λ (x y : ℕ). x + 65536 * y) (put2-off 4 _ _ 6 (λ z. omega arith) (λ z. omega arith)) (put2-off 4 _ _ 7 (λ z. omega arith) (λ z. omega arith))
       ∙ put2-here 6 (link′ π v f r (below′ π v f r k)) _
 
-  fib-high : (w : ℕ) → 8 ≤ w → grown π v f r dat home w ≡ counted π (size′ π v f r) (number (least′ π v f r)) (spot′ π v f r (least′ π v f r)) (ended π v f r dat (entered π v f r dat home (v f))) w
+  fib-high : (w : ℕ) → 8 ≤ w → grown π v f r dat home w ≡ counted (size′ π v f r) (number (least′ π v f r)) (lowAddress π v f r) (ended π v f r dat (entered π v f r dat home (v f))) w
   unfolding body
   fib-high w l = grown-off home w (λ z. omega arith) (λ z. omega arith) (λ z. omega arith) (λ z. omega arith)
 
@@ -156,13 +156,13 @@ module _ (π : Partition) (v : View) (f r : ℕ) (dat : Rec) where
   unfolding counted
   fib-low = fib-high 261 (omega arith) ∙ put-off 257 _ _ 261 (λ z. omega arith) ∙ put-here 261 (number (least′ π v f r)) _
 
-  pub fib-address : isLda (π .drive) (two (grown π v f r dat home) 262) (spot′ π v f r (least′ π v f r)) ≡ true
+  pub fib-address : two (grown π v f r dat home) 262 ≡ lowAddress π v f r
   unfolding counted
-  fib-address = ap (λ (x : ℕ). isLda (π .drive) x (spot′ π v f r (least′ π v f r)))
-      (ap₂ (λ (x y : ℕ). x + 65536 * y)
+  fib-address =
+      ap₂ (λ (x y : ℕ). x + 65536 * y)
       (fib-high 262 (omega arith) ∙ put-off 257 _ _ 262 (λ z. omega arith) ∙ put-off 261 _ _ 262 (λ z. omega arith))
-      (fib-high 263 (omega arith) ∙ put-off 257 _ _ 263 (λ z. omega arith) ∙ put-off 261 _ _ 263 (λ z. omega arith)) ∙ put2-here 262 _ _)
-      ∙ address-names π _ (spot′ π v f r (least′ π v f r))
+      (fib-high 263 (omega arith) ∙ put-off 257 _ _ 263 (λ z. omega arith) ∙ put-off 261 _ _ 263 (λ z. omega arith))
+      ∙ put2-here 262 _ _
 
   -- ---- with the keys over block r
 

@@ -9,20 +9,20 @@ use lib.Dec.{ltb}
 use borrow.Author.Tests.{ltb-true, ltb-false, eq-eqb}
 use Rattle.base.specs.Tests.{pick, every, count}
 use Rattle.base.specs.Laws.{iff-eq, cons-same, never}
-use Rattle.drive.specs.Address.{pda, lda, ldaBlock}
+use Rattle.drive.specs.Address.{pda, lda, ldaBlock, isLda}
 use Rattle.drive.specs.Laws.{lda-back, lda-pos}
 use Rattle.image.specs.View.{View, pair}
 use Rattle.volume.specs.Words.{serialAt, relativeAt, lastAddressAt, inUseAt, lowNumberAt, lowAddressAt}
 use Rattle.volume.specs.Search.{seek, down, seek-same, down-same, count-same}
 use Rattle.volume.specs.Keys.{home, number, reach, up, slot, first, low, span}
 use Rattle.volume.specs.KeyLaws.{key-ind, low-pos, asked-low, asked-high, fib-keys}
-use Rattle.volume.specs.Files.{isLda, len, spot, present, entry, wellFormed, above, below, least, size, tally}
+use Rattle.volume.specs.Files.{len, spot, present, entry, wellFormed, above, below, least, size, tally}
 use Rattle.volume.specs.declared.Partition.{Partition}
 use Rattle.volume.specs.Index.{Here, here-of, of-here, spot-home, present-home, spot-step, entry-fib, Member, WF, wf-of, of-wf, member}
 use Rattle.volume.specs.Frame.{SameHead, same-serial}
 use Rattle.volume.specs.Plans.{freeAt}
-use Rattle.volume.specs.Writes.{over, isNew, fresh, present′, spot′, above′, below′, least′, size′}
-use Rattle.frame.specs.Repair.{lda-self}
+use Rattle.volume.specs.Writes.{over, isNew, fresh, present′, spot′, above′, below′, least′, size′, lastAddress, lowAddress}
+use Rattle.drive.specs.Names.{lda-self, address-names}
 use Rattle.growth.specs.Ready.{Tails, Ready}
 use Rattle.growth.specs.Path.{over-zero, new-at, fresh-at, needs-some, new-first, new-up, fresh-in, home-old}
 use Rattle.growth.specs.Afterwards.{present-new, present-old, present-split, present-not, spot-new, spot-old, len-more, len-short, asked′, full′, new-old}
@@ -36,10 +36,10 @@ module _ (π : Partition) (v : View) (f r : ℕ) where
     pub entries : (k : ℕ) → k ≢ home → 0 < k → k < 37220 → present′ π v f r (up k) ≡ true
         → pair W (spot′ π v f r (up k)) (slot k) ≡ pick (isNew π v f r k) (lda (π .drive) (fresh π v f r k)) (pick (isNew π v f r (up k)) 0 (entry π v f k))
     pub length : len W f ≡ suc r
-    pub last : pair W f lastAddressAt ≡ lda (π .drive) (freeAt π v 0)
+    pub last : pair W f lastAddressAt ≡ lastAddress π v f r
     pub used : W f inUseAt ≡ size′ π v f r
     pub lowest : W f lowNumberAt ≡ number (least′ π v f r)
-    pub lowAt : isLda (π .drive) (pair W f lowAddressAt) (spot′ π v f r (least′ π v f r)) ≡ true
+    pub lowAt : pair W f lowAddressAt ≡ lowAddress π v f r
 
   module _ (ok : Ready π v f r) (tails : Tails π v f) (W : View) (w : Written W) where
     -- key k is present where it should be, and stands there
@@ -153,7 +153,7 @@ module _ (π : Partition) (v : View) (f r : ℕ) where
     wf = wf-of π v f (ok .file .formed)
 
     good : (k : ℕ) → k ≢ home → (isNew π v f r k ≡ true) ⊎ (present π v f k ≡ true) → isLda (π .drive) (entry π W f k) (spot π W f k) ≡ true
-    good k n (inl q) = ap₂ (isLda (π .drive)) (entry-new k n (written-spot (up k)) q) (spot-fresh k q) ∙ lda-self π (fresh π v f r k)
+    good k n (inl q) = ap₂ (isLda (π .drive)) (entry-new k n (written-spot (up k)) q) (spot-fresh k q) ∙ lda-self (π .drive) (fresh π v f r k)
     good k n (inr q) = ap₂ (isLda (π .drive)) (entry-old k n (written-spot (up k)) q) (spot-kept k q) ∙ wf .good k n q
 
     mine : (k : ℕ) → (isNew π v f r k ≡ true) ⊎ (present π v f k ≡ true) → Member π W f (spot π W f k) k
@@ -192,7 +192,7 @@ module _ (π : Partition) (v : View) (f r : ℕ) where
     last : isLda (π .drive) (pair W f lastAddressAt) (spot π W f (home + len W f)) ≡ true
     last =
         ap₂ (isLda (π .drive)) (w .last) (ap (spot π W f) end-is ∙ spot-fresh (over r 0) first-new ∙ fresh-at π v f r (ok .file) 0 (needs-some π v f r))
-        ∙ lda-self π (freeAt π v 0)
+        ∙ address-names (π .drive) _ (freeAt π v 0)
 
     -- link order
     pub written-above : (k : ℕ) → above π W f k ≡ above′ π v f r k
@@ -217,7 +217,7 @@ module _ (π : Partition) (v : View) (f r : ℕ) where
     tallied = ap every
         (cons-same (eq-eqb _ _ (w .used ∙ sym written-size))
         (cons-same (eq-eqb _ _ (w .lowest ∙ ap number (sym written-least)))
-        (cons-same {l = []} (ap (isLda (π .drive) (pair W f lowAddressAt)) (ap (spot π W f) written-least ∙ written-spot (least′ π v f r) (least′-there π v f r (ok .file) .1)) ∙ w .lowAt) refl)))
+        (cons-same {l = []} (ap₂ (isLda (π .drive)) (w .lowAt) (ap (spot π W f) written-least ∙ written-spot (least′ π v f r) (least′-there π v f r (ok .file) .1)) ∙ address-names (π .drive) _ (spot′ π v f r (least′ π v f r))) refl)))
 
     pub written-formed : wellFormed π W f ≡ true
     written-formed = of-wf π W f (record {

@@ -9,13 +9,13 @@ use lib.Dec.{ltb, eqb}
 use lib.ListN.{length}
 use borrow.Author.Tests.{ltb-true, eqb-true, eqb-false}
 use Rattle.base.specs.Tests.{every}
-use Rattle.drive.specs.Address.{pda, ldaBlock}
+use Rattle.drive.specs.Address.{pda, ldaBlock, isLda}
 use Rattle.image.specs.View.{View, pair}
 use Rattle.image.specs.Image.{view}
 use Rattle.volume.specs.Words.{dataOffset, relativeAt, slotAt, directAt, indirectAt}
 use Rattle.volume.specs.Keys.{home, reach, number, up, first, low}
 use Rattle.volume.specs.KeyLaws.{first-data, first-pointer, asked-closed, row-ptr, row-direct, row-data}
-use Rattle.volume.specs.Files.{partitionOf, inside, isLda, serial, candidate, wellFormed, named, len, entry, spot, present, name, above, below, least}
+use Rattle.volume.specs.Files.{partitionOf, inside, serial, candidate, wellFormed, named, len, entry, spot, present, name, above, below, least}
 use Rattle.volume.specs.declared.Partition.{Partition}
 use Rattle.volume.specs.Index.{wf-of, here-of, spot-home, spot-step, entry-at, entry-fib, present-high}
 use Rattle.volume.specs.Order.{above-next, below-prev, least-present}

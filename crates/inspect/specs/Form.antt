@@ -9,13 +9,13 @@ use lib.Dec.{leb, ltb, eqb}
 use borrow.Author.Tests.{ltb-true, ltb-false, eqb-true, le-ltb, eq-eqb, le-leb, leb-true}
 use Rattle.base.specs.Tests.{both, every, all}
 use Rattle.base.specs.Laws.{all-at, all-of, both-left, both-right, both-of, every-at, iff-eq}
-use Rattle.drive.specs.Address.{lda, ldaBlock}
-use Rattle.drive.specs.Laws.{lda-pos}
+use Rattle.drive.specs.Address.{ldaBlock, isLda}
+use Rattle.drive.specs.Names.{lda-some}
 use Rattle.image.specs.View.{View, pair}
 use Rattle.volume.specs.Words.{relativeAt, directAt, indirectAt, doubleAt, inUseAt, lastAddressAt, lowNumberAt, lowAddressAt}
 use Rattle.volume.specs.Keys.{home, reach, number, up, slot, first, low}
 use Rattle.volume.specs.KeyLaws.{key-ind, first-up, first-data, first-doubles, low-pos, asked-low, fib-keys, last-asked, asked-closed, closed-ptr, row-direct, row-ptr, row-double}
-use Rattle.volume.specs.Files.{inside, isLda, serial, len, spot, present, entry, named, tally, wellFormed}
+use Rattle.volume.specs.Files.{inside, serial, len, spot, present, entry, named, tally, wellFormed}
 use Rattle.volume.specs.declared.Partition.{Partition}
 use Rattle.volume.specs.Index.{WF, Member, wf-of, of-wf, or-at, or-of, here-of, of-here, present-home, named-of}
 use Rattle.volume.specs.Steps.{every-cons, every-nil}
@@ -135,10 +135,7 @@ module _ (π : Partition) (v : View) (f : ℕ) where
   named-member k h = record { ins = every-at _ h 1; ser = eqb-true _ _ (every-at _ h 2); num = eqb-true _ _ (every-at _ h 3) }
 
   named-said : (k : ℕ) → named π v f k ≡ true → entry π v f k ≢ 0
-  unfolding isLda
-  named-said k h z =
-      let a : entry π v f k ≡ lda (π .drive) (spot π v f k) = eqb-true _ _ (named-lda k h) in
-      omega (arith, lda-pos (π .drive) (spot π v f k))
+  named-said k h z = omega (arith, lda-some (π .drive) (entry π v f k) (spot π v f k) (named-lda k h))
 
   module _ (short : len v f ≤ reach) (good : indexGood π v f (len v f) ≡ true) where
     pub asked-named : (k : ℕ) → k ≢ home → first k < len v f → named π v f k ≡ true

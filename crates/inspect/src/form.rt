@@ -61,7 +61,7 @@ fn numbers_good(img: &[u8], p: Partition, f: usize, n: usize) -> bool
         return false;
     }
     let last = index::at_key(img, p, f, keys::HOME + n);
-    if !crate::is_lda(p.drive, image::pair(img, f, LAST_ADDRESS), last) {
+    if !drive::is_lda(p.drive, image::pair(img, f, LAST_ADDRESS), last) {
         return false;
     }
     let low = keys::low(n);
@@ -69,7 +69,7 @@ fn numbers_good(img: &[u8], p: Partition, f: usize, n: usize) -> bool
         return false;
     }
     let top = index::at_key(img, p, f, low);
-    crate::is_lda(p.drive, image::pair(img, f, LOW_ADDRESS), top)
+    drive::is_lda(p.drive, image::pair(img, f, LOW_ADDRESS), top)
 }
 
 // Whether f is well formed.

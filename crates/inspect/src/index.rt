@@ -46,7 +46,7 @@ fn names(img: &[u8], p: Partition, own: usize, x: usize, n: i32) -> bool
     if p.e < b {
         return false;
     }
-    if !crate::is_lda(p.drive, x, b) {
+    if !drive::is_lda(p.drive, x, b) {
         return false;
     }
     if image::pair(img, b, SERIAL) != own {

@@ -3,7 +3,7 @@ ghost use mathlib.Core.Path.{_≡_};
 ghost use Prim.Native.Nat.{_+_, _*_, _≤_, _<_};
 ghost use lib.ListN.{length};
 ghost use Rattle.image.specs.Image.{view};
-ghost use Rattle.volume.specs.Files.{isLda, candidate, isFile, isMalformed};
+ghost use Rattle.volume.specs.Files.{candidate, isFile, isMalformed};
 ghost use Rattle.volume.specs.Answers.{imageGood, partGood, partition, lowestMalformed};
 ghost use Rattle.volume.specs.Reads.{Lies};
 use base::Refusal;
@@ -40,14 +40,6 @@ pub use numbers::key_of;
 pub use numbers::last_good;
 pub use numbers::number_of;
 
-// Whether x is the LDA of block b.
-fn is_lda(drive: usize, x: usize, b: usize) -> bool
-    requires { ⌜ b < 4294967296 ⌝ }
-    ensures { λ r. ⌜ r ≡ isLda drive x b ⌝ }
-{
-    x == drive::lda(drive, b)
-}
-
 // Whether the drive is known and n bytes are an image for it.
 pub fn image_good(drive: usize, n: usize) -> bool
     ensures { λ r. ⌜ r ≡ imageGood drive n ⌝ }
@@ -75,12 +67,12 @@ pub fn part_good(img: &[u8], drive: usize, n: usize, s: usize) -> bool
     if n <= s {
         return false;
     }
-    if !is_lda(drive, image::pair(img, s, PARTITION_START), s) {
+    if !drive::is_lda(drive, image::pair(img, s, PARTITION_START), s) {
         return false;
     }
     let x = image::pair(img, s, PARTITION_END);
     let e = drive::lda_block(drive, x);
-    if !is_lda(drive, x, e) {
+    if !drive::is_lda(drive, x, e) {
         return false;
     }
     if e <= s {

@@ -80,7 +80,8 @@ pub fn pib_less_save(img: &[u8], drive: usize, s: usize, g: usize, n: usize) -> 
 {
     let m = drive::less(image::pair(img, s, NUMBER_FREE), n);
     let x = image::with_pair(image::record(img, s), NUMBER_FREE, m);
-    image::saved(s, image::with_pair(x, FREE_HEAD, lda_of(drive, g)))
+    let head = drive::address(drive, image::pair(img, s, FREE_HEAD), g);
+    image::saved(s, image::with_pair(x, FREE_HEAD, head))
 }
 
 // ---- create

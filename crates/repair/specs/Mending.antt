@@ -10,14 +10,13 @@ use lib.ListN.{length}
 use lib.Seq.{take-nil}
 use borrow.Author.Tests.{eqb-true}
 use Rattle.base.specs.Tests.{pick, tabFrom, headOf, lastOf}
-use Rattle.drive.specs.Address.{lda}
-use Rattle.image.specs.View.{View, Rec, Store, upd, pair, put2}
+use Rattle.image.specs.View.{View, Rec, Store, upd}
 use Rattle.image.specs.Image.{view, Bytes}
 use Rattle.image.specs.Stores.{stored, over, bytesOf, Fits, In, view-over, over-length, bytes-length, rec-bytes}
 use Rattle.image.specs.Saves.{Applied}
 use Rattle.image.proofs.Laws.{then}
-use Rattle.volume.specs.Words.{freeHeadAt, freeTailAt, numberFreeAt}
-use Rattle.volume.specs.Files.{address, owned, unowned}
+use Rattle.blocks.specs.Records.{pibRecord}
+use Rattle.volume.specs.Files.{owned, unowned}
 use Rattle.volume.specs.declared.Partition.{Partition}
 use Rattle.volume.specs.Answers.{Unmarred}
 use Rattle.volume.specs.Frame.{Clean, Formed, formed, agree-clean, agree-owned, agree-unowned, of-clean, clean-of}
@@ -27,7 +26,6 @@ use Rattle.frame.specs.Restart.{Part, start, hits, hits-tab-in, repaired-same, 
 use Rattle.repair.specs.declared.Progress.{Progress}
 use Rattle.blocks.specs.Ready.{Ready}
 use Rattle.blocks.specs.Standing.{Standing, stand-starts, stand-last, stand-many}
-use Rattle.volume.specs.Reads.{address-lda}
 use Rattle.frame.specs.Fitted.{repaired-fits}
 use Rattle.frame.specs.Fitting.{view-fits}
 
@@ -173,18 +171,15 @@ module _ {π : Partition} {l : List ℕ} {limit : ℕ} {l′ : List ℕ} {b : �
 
 -- the PIB's record for the free blocks fr
 pib-is : (π : Partition) (v : View) (fr : List ℕ) {first last n : ℕ} → first ≡ headOf 0 fr → last ≡ lastOf 0 fr → n ≡ length fr
-    → put2 freeHeadAt (lda (π .drive) first) (put2 freeTailAt (lda (π .drive) last) (put2 numberFreeAt n (v (π .s)))) ≡ repairedPib π v fr
-unfolding repairedPib
-pib-is π v fr {first} {last} {n} h t k =
-    let x : lda (π .drive) first ≡ address (π .drive) (pair v (π .s) freeHeadAt) (headOf 0 fr) = ap (lda (π .drive)) h ∙ sym (address-lda _ _ _) in
-    let y : lda (π .drive) last ≡ address (π .drive) (pair v (π .s) freeTailAt) (lastOf 0 fr) = ap (lda (π .drive)) t ∙ sym (address-lda _ _ _) in
-    rw (x, y, k)
+    → pibRecord (π .drive) v (π .s) first last n ≡ repairedPib π v fr
+unfolding repairedPib pibRecord
+pib-is π v fr h t k = rw (h, t, k)
 
 -- past the last block
 module _ {π : Partition} {l : List ℕ} {limit : ℕ} {l′ : List ℕ} {t : Progress} (m : Mending π l limit l′ (suc (π .e)) t) where
   -- the PIB's record, made of the image as it is
   pub mend-pib : (first : ℕ) {R : Rec} → first ≡ headOf 0 (unowned π (view l))
-      → R ≡ put2 freeHeadAt (lda (π .drive) first) (put2 freeTailAt (lda (π .drive) (t .last)) (put2 numberFreeAt (t .count) (view l′ (π .s))))
+      → R ≡ pibRecord (π .drive) (view l′) (π .s) first (t .last) (t .count)
       → R ≡ repairedPib π (view l) (unowned π (view l))
   unfolding unowned
   mend-pib first {R} h q =

@@ -4,10 +4,10 @@ use Prim.Native.Nat.{ℕ, zero, suc, _+_, _-_}
 use lib.Dec.{eqb}
 use Rattle.base.specs.Tests.{pick, both, every}
 use mathlib.Core.List.{[], _∷_}
-use Rattle.drive.specs.Address.{pda, pdaBlock, orNil}
+use Rattle.drive.specs.Address.{pda, pdaBlock, orNil, isLda}
 use Rattle.image.specs.View.{View, pair}
 use Rattle.volume.specs.Words.{nextAt, previousAt, freeHeadAt, freeTailAt, numberFreeAt}
-use Rattle.volume.specs.Files.{blockAt, inside, isLda, owned, freeHead}
+use Rattle.volume.specs.Files.{blockAt, inside, owned, freeHead}
 use Rattle.volume.specs.declared.Partition.{Partition}
 use Rattle.verify.specs.declared.Step.{Step}
 use Rattle.verify.specs.declared.Step.the-variants.{Bad, End, On}

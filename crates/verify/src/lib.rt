@@ -135,10 +135,10 @@ fn chain_named(img: &[u8], p: Partition, n: usize, last: usize) -> bool
     ensures { λ r. ⌜ r ≡ named p (view (now (img .entry))) n last ⌝ }
 {
     let x = image::pair(img, p.s, FREE_HEAD);
-    if x != drive::lda(p.drive, drive::lda_block(p.drive, x)) {
+    if !drive::is_lda(p.drive, x, drive::lda_block(p.drive, x)) {
         return false;
     }
-    if image::pair(img, p.s, FREE_TAIL) != drive::lda(p.drive, last) {
+    if !drive::is_lda(p.drive, image::pair(img, p.s, FREE_TAIL), last) {
         return false;
     }
     image::pair(img, p.s, NUMBER_FREE) == n

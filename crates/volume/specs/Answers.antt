@@ -9,11 +9,11 @@ use lib.ListN.{length, take, drop, replicate}
 use Rattle.base.specs.Tests.{pick, every, count}
 use Rattle.base.specs.declared.Refusal.{Refusal}
 use Rattle.base.specs.declared.Refusal.the-variants.{BadImage, BadPartition, BadBuffer, Malformed, Unsound, NoCandidate, BadBlock}
-use Rattle.drive.specs.Address.{blocks, ldaBlock}
+use Rattle.drive.specs.Address.{blocks, ldaBlock, isLda}
 use Rattle.image.specs.View.{View, pair}
 use Rattle.image.specs.Image.{view}
 use Rattle.volume.specs.Words.{partitionStartAt, partitionEndAt, dataOffset}
-use Rattle.volume.specs.Files.{partitionOf, blockAt, isLda, candidate, wellFormed, isFile, isMalformed, owned, sound, len, name}
+use Rattle.volume.specs.Files.{partitionOf, blockAt, candidate, wellFormed, isFile, isMalformed, owned, sound, len, name}
 use Rattle.volume.specs.declared.Partition.{Partition}
 use Rattle.volume.specs.Keys.{reach}
 use Rattle.volume.specs.declared.Found.{Found}

@@ -6,7 +6,7 @@ use Prim.Native.Nat.{ℕ, zero, suc, _+_, _-_, _%_}
 use lib.Dec.{leb, ltb, eqb}
 use lib.ListN.{length}
 use Rattle.base.specs.Tests.{pick, both, every, all, count, those, occ, lastOf, headOf}
-use Rattle.drive.specs.Address.{pda, pdaBlock, lda, ldaBlock, orNil}
+use Rattle.drive.specs.Address.{pda, pdaBlock, ldaBlock, isLda, orNil}
 use Rattle.image.specs.View.{View, pair}
 use Rattle.volume.specs.Words.{serialAt, relativeAt, nextAt, previousAt, slotAt, inUseAt, lastBlockAt, lastAddressAt, lowNumberAt, lowAddressAt, freeHeadAt, freeTailAt, numberFreeAt, fibNumber}
 use Rattle.volume.specs.Search.{seek, down}
@@ -27,14 +27,6 @@ within π (b ∷ bs) = both (inside π b) (within π bs)
 -- a block of s+1..e by its place from 0 on
 abbrev pub blockAt : Partition → ℕ → ℕ
 blockAt π i = suc (π .s + i)
-
--- x is the LDA of block b, on drive d
-unfoldable pub isLda : ℕ → ℕ → ℕ → Bool
-isLda d x b = eqb x (lda d b)
-
--- the address of b as it is written over `old`: kept where it names b already
-unfoldable pub address : ℕ → ℕ → ℕ → ℕ
-address d old b = pick (isLda d old b) old (lda d b)
 
 module _ (v : View) where
   -- the serial in a block's header, and the key that its relative number is

@@ -9,14 +9,14 @@ use lib.Dec.{eqb}
 use borrow.Author.Tests.{eqb-false}
 use Rattle.base.specs.Tests.{pick, both, every, count, those}
 use Rattle.base.specs.Laws.{pick-same, cons-same, iff-eq, both-left, both-of}
-use Rattle.drive.specs.Address.{pda, pdaBlock, ldaBlock}
+use Rattle.drive.specs.Address.{pda, pdaBlock, ldaBlock, isLda}
 use Rattle.image.specs.View.{View, Rec, pair}
 use Rattle.volume.specs.Words.{lastBlockAt, lastAddressAt, inUseAt, lowNumberAt, lowAddressAt}
 use Rattle.volume.specs.Order.{least-present, above-next, below-prev}
 use Rattle.volume.specs.Search.{seek, down, seek-same, down-same, count-same}
 use Rattle.volume.specs.Keys.{home, keyOf, number, reach, up, slot, first, low, span}
 use Rattle.volume.specs.KeyLaws.{key-ind}
-use Rattle.volume.specs.Files.{isLda, candidate, len, spot, present, entry, wellFormed, isFile, isMalformed, fileOf, key, owned, files, unowned, above, below, least, size, tally, link}
+use Rattle.volume.specs.Files.{candidate, len, spot, present, entry, wellFormed, isFile, isMalformed, fileOf, key, owned, files, unowned, above, below, least, size, tally, link}
 use Rattle.volume.specs.declared.Partition.{Partition}
 use Rattle.volume.specs.Answers.{lowestMalformed, Unmarred}
 use Rattle.volume.specs.Reads.{candidate-in, lowest-none, none-lowest}

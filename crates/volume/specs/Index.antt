@@ -9,13 +9,13 @@ use lib.Dec.{ltb, eqb}
 use borrow.Author.Tests.{ltb-true, ltb-false, eqb-true, eqb-false, lt-ltb, le-ltb, eq-eqb, ne-eqb, le-leb, leb-true, not-true}
 use Rattle.base.specs.Tests.{pick, both, every, all}
 use Rattle.base.specs.Laws.{all-at, all-of, pick-same, every-at, both-left, both-right, both-of, cons-same, never}
-use Rattle.drive.specs.Address.{pda, pdaBlock, ldaBlock}
+use Rattle.drive.specs.Address.{pda, pdaBlock, ldaBlock, isLda}
 use Rattle.drive.specs.Laws.{pda-back}
 use Rattle.image.specs.View.{View, pair}
 use Rattle.volume.specs.Words.{serialAt, relativeAt, lastAddressAt}
 use Rattle.volume.specs.Keys.{home, keyOf, number, reach, up, slot, first, low, span}
 use Rattle.volume.specs.KeyLaws.{level, up-level, level-few, level-zero, low-home, asked-low, asked-high, last-asked, span-end, fib-keys, near-keys, key-number, number-home, number-fib}
-use Rattle.volume.specs.Files.{inside, isLda, serial, candidate, len, spotIn, presentIn, spot, present, entry, named, keyTest, nilTest, indexed, fullTest, gapless, tally, wellFormed, isFile, fileOf, key, owned}
+use Rattle.volume.specs.Files.{inside, serial, candidate, len, spotIn, presentIn, spot, present, entry, named, keyTest, nilTest, indexed, fullTest, gapless, tally, wellFormed, isFile, fileOf, key, owned}
 use Rattle.volume.specs.declared.Partition.{Partition}
 use Rattle.volume.specs.Reads.{off-pib}
 

@@ -10,13 +10,13 @@ use Rattle.base.specs.Laws.{same-table}
 use Rattle.base.specs.Refusals as refusals
 use Rattle.drive.specs.Code.{placeNumber, guess}
 use Rattle.drive.specs.Rows.{onDrive}
-use Rattle.drive.specs.Address.{blocks, pda, pdaBlock, lda, ldaBlock, fileId, fileIdBlock, fileIds}
+use Rattle.drive.specs.Address.{blocks, pda, pdaBlock, lda, ldaBlock, fileId, fileIdBlock, fileIds, isLda, address}
 use Rattle.drive.specs.Answers.{lbnToPda, lbnToLda, pdaToLbn, ldaToLbn, lbnToFileId}
 use Rattle.image.specs.View.{View, after, pair, put, put2, blank}
 use Rattle.image.specs.Saves.{withData, withText, words}
 use Rattle.volume.specs.Search.{seek, down}
 use Rattle.volume.specs.Keys.{keyOf, number, up, slot, child, first, low, span}
-use Rattle.volume.specs.Files.{partitionOf, isLda, address, inside, within, candidate, len, spotIn, presentIn, spot, present, entry, least, size, tally, named, indexed, gapless, wellFormed, isFile, isMalformed, key, owned, files, unowned, above, below, link, linked, chain, free, chained, freeSound, sound}
+use Rattle.volume.specs.Files.{partitionOf, inside, within, candidate, len, spotIn, presentIn, spot, present, entry, least, size, tally, named, indexed, gapless, wellFormed, isFile, isMalformed, key, owned, files, unowned, above, below, link, linked, chain, free, chained, freeSound, sound}
 use Rattle.volume.specs.declared.Partition.{Partition}
 use Rattle.volume.specs.Plans.{newFirst, pibLess, freshFib, gone, topGone, fibGone, topGoneStores, lastGoneStores, pibMore, destroyed, trimmed, shaped, stores, freeAt, takenStores, createPlan, describePlan, destroyPlan, content, relinked, freed, repaired, repairedPib, repairPlan}
 use Rattle.volume.specs.Writes.{put2If, over, counted, inner, needs, isNew, fresh, present′, spot′, above′, below′, least′, size′, link′, early, empty, base, entered, ended, body, grown, planOf, writePlan, replacePlan}

@@ -7,12 +7,12 @@ use lib.Dec.{leb, ltb, eqb}
 use lib.ListN.{length}
 use Rattle.base.specs.Tests.{pick, both, tabFrom, lastOf, headOf}
 use Rattle.base.specs.Tests as tests
-use Rattle.drive.specs.Address.{pda, pdaBlock, lda, ldaBlock, orNil}
+use Rattle.drive.specs.Address.{pda, pdaBlock, lda, ldaBlock, orNil, address}
 use Rattle.image.specs.View.{View, Rec, Store, pair, put, put2, blank}
 use Rattle.image.specs.Saves.{withText}
 use Rattle.volume.specs.Words.{serialAt, relativeAt, fillerAt, nextAt, previousAt, kindAt, inUseAt, lastBlockAt, lastAddressAt, lowNumberAt, lowAddressAt, freeHeadAt, freeTailAt, numberFreeAt, fibNumber}
 use Rattle.volume.specs.Keys.{home, child, first}
-use Rattle.volume.specs.Files.{address, len, end, spot, fileOf, key, owned, unowned, above, below, least, size, link, freeHead}
+use Rattle.volume.specs.Files.{len, end, spot, fileOf, key, owned, unowned, above, below, least, size, link, freeHead}
 use Rattle.volume.specs.declared.Partition.{Partition}
 
 abbrev pub st : ℕ → Rec → Store
@@ -40,7 +40,7 @@ newFirst v g = put2 previousAt 0 (put fillerAt (asFiller g) (v g))
 module _ (d : ℕ) (v : View) where
   -- the PIB s with n free blocks fewer, from g on
   unfoldable pub pibLess : ℕ → ℕ → ℕ → Rec
-  pibLess s g n = put2 freeHeadAt (lda d g) (put2 numberFreeAt (pair v s numberFreeAt - n) (v s))
+  pibLess s g n = put2 freeHeadAt (address d (pair v s freeHeadAt) g) (put2 numberFreeAt (pair v s numberFreeAt - n) (v s))
 
   -- block h as the FIB of an empty file: L = -1, description zero, its filler kept
   unfoldable pub freshFib : ℕ → ℕ → Rec
@@ -71,7 +71,7 @@ module _ (d : ℕ) (v : View) where
 
   -- the PIB s with n free blocks more, the last of them `last`
   unfoldable pub pibMore : ℕ → ℕ → ℕ → Rec
-  pibMore s last n = put2 freeTailAt (lda d last) (put2 numberFreeAt (pair v s numberFreeAt + n) (v s))
+  pibMore s last n = put2 freeTailAt (address d (pair v s freeTailAt) last) (put2 numberFreeAt (pair v s numberFreeAt + n) (v s))
 
   -- all its stores, of a file with n blocks in use
   unfoldable pub destroyed : ℕ → ℕ → Bool → Bool → ℕ → ℕ → ℕ → ℕ → ℕ → Plan

@@ -10,11 +10,11 @@ use lib.ListN.{length}
 use lib.Dec.{eqb}
 use borrow.Author.Tests.{ltb-true, leb-true, eqb-true, eqb-false, ne-eqb, lt-ltb, le-leb}
 use Rattle.base.specs.Tests.{pick, all}
-use Rattle.drive.specs.Address.{blocks, lda, pda, orNil}
+use Rattle.drive.specs.Address.{blocks, pda, orNil}
 use Rattle.image.specs.View.{View}
 use Rattle.image.specs.Image.{view}
 use Rattle.base.specs.Laws.{all-at, every-at, both-left, both-right, both-of}
-use Rattle.volume.specs.Files.{partitionOf, blockAt, isLda, address, inside, candidate}
+use Rattle.volume.specs.Files.{partitionOf, blockAt, inside, candidate}
 use Rattle.volume.specs.declared.Partition.{Partition}
 use Rattle.drive.specs.Laws.{blocks-few}
 use Rattle.volume.specs.Answers.{imageGood, partGood, endOf, partition, inPartition, lowest}
@@ -59,15 +59,6 @@ pub none-lowest : (p : ℕ → Bool) (n a : ℕ) → ((x : ℕ) → a ≤ x → 
 unfolding lowest
 none-lowest p zero a h = refl
 none-lowest p (suc n) a h = let q : p a ≡ false = h a (omega arith) (omega arith) in rw (q, lowest) (none-lowest p n (a + 1) (λ x l u. h x (omega arith) (omega arith)))
-
--- an address that names b already is b's LDA, so that the one written over any other is too
-pub address-lda : (d old b : ℕ) → address d old b ≡ lda d b
-unfolding address isLda
-address-lda d old b = go (eqb old (lda d b)) refl
-  where
-    go : (t : Bool) → eqb old (lda d b) ≡ t → pick t old (lda d b) ≡ lda d b
-    go true q = eqb-true old (lda d b) q
-    go false q = refl
 
 -- what a good partition gives the code that goes on with it
 pub record Lies (π : Partition) (l : List ℕ) : Type 0 where

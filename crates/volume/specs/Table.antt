@@ -1,5 +1,6 @@
--- The worked examples M1 to M12 (docs/FORMAT.md, 13), proved of the definitions by computation as one table: `table` is what the
--- definitions give, `paper` what the customer's rules print, and `worked` says that they are equal.
+-- The worked examples M1 to M12 (docs/FORMAT.md, 13), and after them some with reserved bits in every LDA, proved of the definitions by
+-- computation as one table: `table` is what the definitions give, `paper` what the customer's rules print or, of the reserved bits, what
+-- follows from them by hand, and `worked` says that they are equal.
 use mathlib.Core.Path.{_≡_, refl}
 use mathlib.Core.List.{List, [], _∷_, _++_}
 use Prim.Native.Nat.{ℕ, _+_, _-_, _/_, _%_}
@@ -11,18 +12,18 @@ use Rattle.base.specs.Laws.{same-table}
 use Rattle.base.specs.Refusals as refusals
 use Rattle.drive.specs.Code.{placeNumber, guess}
 use Rattle.drive.specs.Rows.{onDrive}
-use Rattle.drive.specs.Address.{blocks, pda, pdaBlock, lda, ldaBlock, fileId, fileIdBlock, fileIds}
+use Rattle.drive.specs.Address.{blocks, pda, pdaBlock, lda, ldaBlock, fileId, fileIdBlock, fileIds, isLda, address}
 use Rattle.drive.specs.Answers.{lbnToPda, lbnToLda, pdaToLbn, ldaToLbn, lbnToFileId}
 use Rattle.drive.specs.declared.Converted.{Converted}
 use Rattle.drive.specs.declared.Converted.the-variants as convert
-use Rattle.image.specs.View.{View, Rec, after, places, put, put2, blank}
+use Rattle.image.specs.View.{View, Rec, upd, after, places, put, put2, blank}
 use Rattle.image.specs.Saves.{withData, withText, words}
-use Rattle.volume.specs.Words.{partitionStartAt, partitionEndAt, slotAt}
+use Rattle.volume.specs.Words.{partitionStartAt, partitionEndAt, slotAt, directAt, lastAddressAt, lowAddressAt, freeHeadAt, freeTailAt}
 use Rattle.volume.specs.Search.{seek, down}
 use Rattle.volume.specs.Keys.{keyOf, number, up, slot, child, first, low, span}
-use Rattle.volume.specs.Files.{partitionOf, isLda, address, inside, within, candidate, len, spotIn, presentIn, spot, present, entry, least, size, tally, named, indexed, gapless, wellFormed, isFile, isMalformed, key, owned, files, unowned, above, below, link, linked, chain, free, chained, freeSound, sound}
+use Rattle.volume.specs.Files.{partitionOf, inside, within, candidate, len, spotIn, presentIn, spot, present, entry, least, size, tally, named, indexed, gapless, wellFormed, isFile, isMalformed, key, owned, files, unowned, above, below, link, linked, chain, free, chained, freeSound, sound}
 use Rattle.volume.specs.declared.Partition.{Partition}
-use Rattle.volume.specs.Answers.{lowest, lowestMalformed, tallied, checkIn}
+use Rattle.volume.specs.Answers.{lowest, lowestMalformed, tallied, checkIn, partGood, endOf}
 use Rattle.volume.specs.Plans.{newFirst, pibLess, freshFib, gone, topGone, fibGone, topGoneStores, lastGoneStores, pibMore, destroyed, trimmed, shaped, stores, freeAt, takenStores, createPlan, describePlan, destroyPlan, content, relinked, freed, repaired, repairedPib, repairPlan}
 use Rattle.volume.specs.Writes.{put2If, over, counted, inner, needs, isNew, fresh, present′, spot′, above′, below′, least′, size′, link′, early, empty, base, entered, ended, body, grown, planOf, writePlan, replacePlan}
 use Rattle.volume.specs.Calls.{Planned, createIn, appendIn, writeIn, describeIn, destroyIn, repairIn}
@@ -72,8 +73,32 @@ block w = w + 7
 pub mended : View → List ℕ
 mended v = let v′ = after (repairIn seven v .list) v in outcomeOf (checkIn seven v′) ++ (len v′ 2 ∷ free seven v′)
 
+-- the places of LDAs in the PIB and in the FIB of a file of up to two blocks
+abbrev pub pibLdas : List ℕ
+pibLdas = freeHeadAt ∷ freeTailAt ∷ partitionStartAt ∷ partitionEndAt ∷ []
+
+abbrev pub fibLdas : List ℕ
+fibLdas = directAt 0 ∷ directAt 1 ∷ lastAddressAt ∷ lowAddressAt ∷ []
+
+-- a record with the reserved bits of the LDAs at these places set to x, x + 1 and so on, where they are not nil
+abbrev pub marked : ℕ → List ℕ → Rec → Rec
+marked x [] r = r
+marked x (i ∷ is) r = marked (x + 1) is (put i (pick (eqb (r (i + 1)) 0) 0 (r i + x)) r)
+
+-- the reserved bits at these places
+abbrev pub bitsAt : List ℕ → Rec → List ℕ
+bitsAt [] r = []
+bitsAt (i ∷ is) r = r i % 256 ∷ bitsAt is r
+
+-- those of the partition seven and its file 2: the PIB's set to 1 to 4, the FIB's to 252 and up
+pub bitsSet : View → View
+bitsSet v b = pick (eqb b 1) (marked 1 pibLdas (v 1)) (pick (eqb b 2) (marked 252 fibLdas (v 2)) (v b))
+
+pub bitsOf : View → List ℕ
+bitsOf v = bitsAt pibLdas (v 1) ++ bitsAt fibLdas (v 2)
+
 pub table : List (List ℕ)
-unfolding zeroed mended both every all count tabFrom those occ lastOf headOf tests.above tests.below onDrive placeNumber guess blocks pda pdaBlock lda ldaBlock fileId fileIdBlock fileIds lbnToPda lbnToLda ldaToLbn pdaToLbn lbnToFileId after put put2 blank withData withText words seek down keyOf number up slot child first low span isLda address inside within candidate len spotIn presentIn spot present entry least size tally named indexed gapless wellFormed isFile isMalformed key owned files unowned above below link linked chain free chained freeSound sound lowest lowestMalformed tallied checkIn newFirst pibLess freshFib gone topGone fibGone topGoneStores lastGoneStores pibMore destroyed trimmed shaped stores freeAt takenStores createPlan describePlan destroyPlan content relinked freed repaired repairedPib repairPlan put2If over counted inner needs isNew fresh present′ spot′ above′ below′ least′ size′ link′ early empty base entered ended body grown planOf writePlan replacePlan createIn appendIn writeIn describeIn destroyIn repairIn
+unfolding zeroed mended bitsSet bitsOf partGood endOf both every all count tabFrom those occ lastOf headOf tests.above tests.below onDrive placeNumber guess blocks pda pdaBlock lda ldaBlock fileId fileIdBlock fileIds lbnToPda lbnToLda ldaToLbn pdaToLbn lbnToFileId after put put2 blank withData withText words seek down keyOf number up slot child first low span isLda address inside within candidate len spotIn presentIn spot present entry least size tally named indexed gapless wellFormed isFile isMalformed key owned files unowned above below link linked chain free chained freeSound sound lowest lowestMalformed tallied checkIn newFirst pibLess freshFib gone topGone fibGone topGoneStores lastGoneStores pibMore destroyed trimmed shaped stores freeAt takenStores createPlan describePlan destroyPlan content relinked freed repaired repairedPib repairPlan put2If over counted inner needs isNew fresh present′ spot′ above′ below′ least′ size′ link′ early empty base entered ended body grown planOf writePlan replacePlan createIn appendIn writeIn describeIn destroyIn repairIn
 table =
     let v₀ = after (repairIn seven zeroed .list) zeroed in
     let c = createIn seven v₀ 5 in
@@ -84,6 +109,9 @@ table =
     let v₃ = after (w₁ .list) v₂ in
     let z = destroyIn seven v₃ 2 in
     let v₄ = after (z .list) v₃ in
+    let x₂ = bitsSet v₂ in
+    let x₃ = after (writeIn seven x₂ 2 1 block .list) x₂ in
+    let x₄ = after (take 2 (destroyIn seven x₂ 2 .list)) x₂ in
     (twoWords (lbnToLda 1 210) ++ (oneNumber (ldaToLbn 1 (lda 1 210)) ++ twoWords (lbnToPda 1 210)))
     ∷ twoWords (lbnToPda 0 210)
     ∷ twoWords (lbnToPda 0 24209)
@@ -113,6 +141,16 @@ table =
     ∷ outcomeOf (checkIn seven v₂)
     ∷ outcomeOf (checkIn seven v₃)
     ∷ outcomeOf (checkIn seven v₄)
+    ∷ oneNumber (ldaToLbn 1 (lda 1 210 + 255))
+    ∷ oneNumber (ldaToLbn 1 255)
+    ∷ bitsOf x₂
+    ∷ (pick (partGood 0 8 x₂ 1) 1 0 ∷ outcomeOf (checkIn seven x₂))
+    ∷ outcomeOf (checkIn seven (upd x₂ 2 (put (directAt 1) 255 (x₂ 2))))
+    ∷ bitsOf x₃
+    ∷ outcomeOf (checkIn seven x₃)
+    ∷ bitsOf (after (repairIn seven x₂ .list) x₂)
+    ∷ bitsOf (after (repairIn seven x₃ .list) x₃)
+    ∷ bitsOf (after (repairIn seven x₄ .list) x₄)
     ∷ []
 
 pub paper : List (List ℕ)
@@ -152,8 +190,23 @@ paper =
     ∷ (0 ∷ 1 ∷ 2 ∷ 4 ∷ [])
     ∷ (0 ∷ 1 ∷ 3 ∷ 3 ∷ [])
     ∷ (0 ∷ 0 ∷ 0 ∷ 6 ∷ [])
+    -- reserved bits: an address that has some decodes, one of them alone does not
+    ∷ (210 ∷ [])
+    ∷ (10 ∷ [])
+    -- set in every LDA before the second append; the partition is good and sound; in a nil entry they make its file malformed
+    ∷ (1 ∷ 2 ∷ 3 ∷ 4 ∷ 252 ∷ 0 ∷ 254 ∷ 255 ∷ [])
+    ∷ (1 ∷ 0 ∷ 1 ∷ 2 ∷ 4 ∷ [])
+    ∷ (2 ∷ 4 ∷ [])
+    -- the append keeps them but where it names another block, in FreeHead and last address
+    ∷ (0 ∷ 2 ∷ 3 ∷ 4 ∷ 252 ∷ 0 ∷ 0 ∷ 255 ∷ [])
+    ∷ (0 ∷ 1 ∷ 3 ∷ 3 ∷ [])
+    -- repair keeps those of both
+    ∷ (1 ∷ 2 ∷ 3 ∷ 4 ∷ 252 ∷ 0 ∷ 254 ∷ 255 ∷ [])
+    ∷ (0 ∷ 2 ∷ 3 ∷ 4 ∷ 252 ∷ 0 ∷ 0 ∷ 255 ∷ [])
+    -- of a cut destroy the chain begins at another block and ends at the same one; the dead FIB's words stay
+    ∷ (0 ∷ 2 ∷ 3 ∷ 4 ∷ 252 ∷ 0 ∷ 254 ∷ 255 ∷ [])
     ∷ []
 
 pub worked : table ≡ paper
-unfolding sameRow sameTable table paper block zeroed mended both every all count tabFrom those occ lastOf headOf tests.above tests.below onDrive placeNumber guess blocks pda pdaBlock lda ldaBlock fileId fileIdBlock fileIds lbnToPda lbnToLda ldaToLbn pdaToLbn lbnToFileId after put put2 blank withData withText words seek down keyOf number up slot child first low span isLda address inside within candidate len spotIn presentIn spot present entry least size tally named indexed gapless wellFormed isFile isMalformed key owned files unowned above below link linked chain free chained freeSound sound lowest lowestMalformed tallied checkIn newFirst pibLess freshFib gone topGone fibGone topGoneStores lastGoneStores pibMore destroyed trimmed shaped stores freeAt takenStores createPlan describePlan destroyPlan content relinked freed repaired repairedPib repairPlan put2If over counted inner needs isNew fresh present′ spot′ above′ below′ least′ size′ link′ early empty base entered ended body grown planOf writePlan replacePlan createIn appendIn writeIn describeIn destroyIn repairIn
+unfolding sameRow sameTable table paper block zeroed mended bitsSet bitsOf partGood endOf both every all count tabFrom those occ lastOf headOf tests.above tests.below onDrive placeNumber guess blocks pda pdaBlock lda ldaBlock fileId fileIdBlock fileIds lbnToPda lbnToLda ldaToLbn pdaToLbn lbnToFileId after put put2 blank withData withText words seek down keyOf number up slot child first low span isLda address inside within candidate len spotIn presentIn spot present entry least size tally named indexed gapless wellFormed isFile isMalformed key owned files unowned above below link linked chain free chained freeSound sound lowest lowestMalformed tallied checkIn newFirst pibLess freshFib gone topGone fibGone topGoneStores lastGoneStores pibMore destroyed trimmed shaped stores freeAt takenStores createPlan describePlan destroyPlan content relinked freed repaired repairedPib repairPlan put2If over counted inner needs isNew fresh present′ spot′ above′ below′ least′ size′ link′ early empty base entered ended body grown planOf writePlan replacePlan createIn appendIn writeIn describeIn destroyIn repairIn
 worked = same-table table paper refl

@@ -2,16 +2,16 @@
 -- of the stores.
 use mathlib.Core.Bool.{Bool, _||_}
 use mathlib.Core.List.{List, [], _∷_, map}
-use Prim.Native.Nat.{ℕ, zero, suc, _+_, _-_, _*_}
+use Prim.Native.Nat.{ℕ, zero, suc, _+_, _-_}
 use lib.Dec.{leb, eqb}
 use Rattle.base.specs.Tests.{pick, both, count}
-use Rattle.drive.specs.Address.{pda, lda}
-use Rattle.image.specs.View.{View, Rec, Store, put, put2, blank}
+use Rattle.drive.specs.Address.{pda, lda, address}
+use Rattle.image.specs.View.{View, Rec, Store, pair, put, put2, blank}
 use Rattle.image.specs.Saves.{withData}
 use Rattle.volume.specs.Words.{serialAt, relativeAt, fillerAt, nextAt, previousAt, lastBlockAt, lastAddressAt, inUseAt, lowNumberAt, lowAddressAt}
 use Rattle.volume.specs.Search.{seek, down}
 use Rattle.volume.specs.Keys.{home, number, up, slot, low, span}
-use Rattle.volume.specs.Files.{address, end, spot, present, least}
+use Rattle.volume.specs.Files.{end, spot, present, least}
 use Rattle.volume.specs.declared.Partition.{Partition}
 use Rattle.volume.specs.Plans.{Plan, st, freeAt, takenStores}
 
@@ -24,9 +24,9 @@ unfoldable pub over : ℕ → ℕ → ℕ
 over r zero = 292 + r
 over r (suc i) = up (over r i)
 
--- a FIB with z blocks in use, last negative number m and its block a
-unfoldable pub counted : Partition → ℕ → ℕ → ℕ → Rec → Rec
-counted π z m a r = put inUseAt z (put lowNumberAt m (put2 lowAddressAt (address (π .drive) (r lowAddressAt + 65536 * r (lowAddressAt + 1)) a) r))
+-- a FIB with z blocks in use, last negative number m and its address x
+unfoldable pub counted : ℕ → ℕ → ℕ → Rec → Rec
+counted z m x r = put inUseAt z (put lowNumberAt m (put2 lowAddressAt x r))
 
 -- keys but for the FIB's
 unfoldable pub inner : List ℕ → List ℕ
@@ -76,6 +76,13 @@ module _ (π : Partition) (v : View) where
     unfoldable pub early : List ℕ
     early = over r 0 ∷ inner (over r 1 ∷ (end v f ∷ pick (leb 2 needs) (least π v f ∷ []) []))
 
+    -- the last address and the last negative address
+    abbrev pub lastAddress : ℕ
+    lastAddress = address (π .drive) (pair v f lastAddressAt) (freeAt π v 0)
+
+    abbrev pub lowAddress : ℕ
+    lowAddress = address (π .drive) (pair v f lowAddressAt) (spot′ least′)
+
     module _ (dat : Rec) where
       -- a new block
       unfoldable pub empty : ℕ → Rec
@@ -95,11 +102,11 @@ module _ (π : Partition) (v : View) where
 
       -- with L and its address
       unfoldable pub ended : Rec → Rec
-      ended x = put lastBlockAt r (put2 lastAddressAt (lda (π .drive) (freeAt π v 0)) x)
+      ended x = put lastBlockAt r (put2 lastAddressAt lastAddress x)
 
       -- the record of key k afterwards
       unfoldable pub body : ℕ → Rec
-      body k = pick (eqb k home) (counted π size′ (number least′) (spot′ least′) (ended (entered home (v f)))) (entered k (base k))
+      body k = pick (eqb k home) (counted size′ (number least′) lowAddress (ended (entered home (v f)))) (entered k (base k))
 
       unfoldable pub grown : ℕ → Rec
       grown k = put2 nextAt (link′ (above′ k)) (put2 previousAt (link′ (below′ k)) (body k))

@@ -6,7 +6,7 @@ use Rattle.erase.proofs.pib_more_save.Tie as tie
 
 returns : tie.Need-returns
 unfolding pibMore
-returns c = stands (rw (c .saved .ensures .0, c .before .with-pair2 .ensures, c .before .before .lda-of .ensures .0, c .before .before .before .with-pair .ensures, c .before .before .before .before .«record» .ensures, c .before .before .before .before .before .pair .ensures .0)) (c .saved .ensures .1) (c .before .before .before .before .before .before .before .pre .0)
+returns c = stands (rw (c .saved .ensures .0, c .before .with-pair2 .ensures, c .before .before .address .ensures .0, c .before .before .before .pair2 .ensures .0, c .before .before .before .before .with-pair .ensures, c .before .before .before .before .before .«record» .ensures, c .before .before .before .before .before .before .pair .ensures .0)) (c .saved .ensures .1) (c .before .before .before .before .before .before .before .before .pre .0)
 
 pub pib-more-save-spec : {M : Type 1} → statement M
 pib-more-save-spec =
@@ -14,6 +14,7 @@ pib-more-save-spec =
     (tie.spec
     (λ c κs. search needs)
     (λ c. search needs)
+    (λ c κs. search needs)
     (λ c κs. search needs)
     (λ c κs. search needs)
     (λ c κs. search needs)
