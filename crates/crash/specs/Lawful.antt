@@ -11,7 +11,8 @@ use Rattle.volume.specs.Files.{inside}
 use Rattle.volume.specs.declared.Partition.{Partition}
 use Rattle.volume.specs.Plans.{newFirst, pibLess, asFiller}
 use Rattle.frame.specs.Reading.{put2-off}
-use Rattle.drive.specs.Fits.{pda-small, lda-small, address-small}
+use Rattle.drive.specs.Fits.{pda-small, lda-small}
+use Rattle.drive.specs.Names.{address-small}
 use Rattle.volume.specs.Words.{numberFreeAt}
 use Rattle.frame.specs.Fitting.{put-fits, put2-fits}
 use Rattle.volume.specs.Reads.{inside-of}

@@ -13,7 +13,7 @@ use Rattle.drive.specs.declared.Converted.{Converted}
 use Rattle.drive.specs.declared.Converted.the-variants.{Number, Refused}
 use Rattle.drive.specs.Code.{placeNumber, encode}
 use Rattle.drive.specs.Rows.{pdaCode, ldaCode, idCode}
-use Rattle.drive.specs.Address.{blocks, pda, pdaBlock, lda, ldaBlock, isLda, address, fileId, fileIdBlock, fileIds}
+use Rattle.drive.specs.Address.{blocks, pda, pdaBlock, lda, ldaBlock, isLda, fileId, fileIdBlock, fileIds}
 use Rattle.drive.specs.Answers.{converted, lbnToPda, pdaToLbn, lbnToLda, ldaToLbn, lbnToFileId, fileIdToLbn}
 use Rattle.drive.specs.Laws.{each-row, on-row, blocks-few}
 
@@ -40,14 +40,6 @@ module _ (d b : ℕ) (h : b < 69552) where
   fileId-small =
       rw (on-row (λ g. encode (idCode g) b) d)
       (each-row (λ g. encode (idCode g) b < 4294967296) d (omega arith) (omega arith) (omega arith) (omega arith))
-
-pub address-small : (d old b : ℕ) → old < 4294967296 → b < 69552 → address d old b < 4294967296
-unfolding address
-address-small d old b l m = go (isLda d old b)
-  where
-    go : (t : Bool) → pick t old (lda d b) < 4294967296
-    go true = l
-    go false = lda-small d b m
 
 pub ids-few : (d : ℕ) → fileIds d ≤ 69552
 unfolding fileIds

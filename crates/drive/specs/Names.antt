@@ -1,5 +1,5 @@
 -- What names a block by its LDA, whatever the reserved bits: the address test, and the address that is written over another one.
-use mathlib.Core.Path.{_≡_, refl, sym, ap, _∙_}
+use mathlib.Core.Path.{_≡_, refl, sym, ap, _∙_, subst}
 use mathlib.Core.Bool.{Bool, true, false}
 use Prim.Native.Nat.{ℕ, _+_, _-_, _*_, _/_, _<_}
 use native.Mathlib.Omega.{arith}
@@ -13,6 +13,7 @@ use Rattle.drive.specs.Code.{placeNumber, guess, encode, decode}
 use Rattle.drive.specs.Rows.{ldaCode}
 use Rattle.drive.specs.Address.{blocks, lda, ldaBlock, cleaned, isLda, address}
 use Rattle.drive.specs.Answers.{converted, lbnToLda, ldaToLbn}
+use Rattle.drive.specs.Fits.{lda-small}
 use Rattle.drive.specs.Laws.{rowOf, on-row, fine}
 
 module _ (d : ℕ) where
@@ -58,13 +59,20 @@ module _ (d : ℕ) where
     unfolding address
     address-new h = ap (λ (t : Bool). pick t old (lda d b)) h
 
-    -- it decodes to b
-    pub address-names : isLda d (address d old b) b ≡ true
-    address-names = go (isLda d old b) refl
+    -- what holds of the old address where it names b, and of b's own, holds of it
+    either : (P : ℕ → Type 0) → (isLda d old b ≡ true → P old) → P (lda d b) → P (address d old b)
+    either P k n = go (isLda d old b) refl
       where
-        go : (t : Bool) → isLda d old b ≡ t → isLda d (address d old b) b ≡ true
-        go true q = ap (λ (x : ℕ). isLda d x b) (address-kept q) ∙ q
-        go false q = ap (λ (x : ℕ). isLda d x b) (address-new q) ∙ lda-self b
+        go : (t : Bool) → isLda d old b ≡ t → P (address d old b)
+        go true q = subst P (sym (address-kept q)) (k q)
+        go false q = subst P (sym (address-new q)) n
+
+    -- it decodes to b, and fits a pair of words
+    pub address-names : isLda d (address d old b) b ≡ true
+    address-names = either (λ (x : ℕ). isLda d x b ≡ true) (λ q. q) (lda-self b)
+
+    pub address-small : old < 4294967296 → b < 69552 → address d old b < 4294967296
+    address-small l m = either (λ (x : ℕ). x < 4294967296) (λ _. l) (lda-small d b m)
 
   -- and stays when it is written again
   pub address-twice : (old b : ℕ) → address d (address d old b) b ≡ address d old b
@@ -81,15 +89,15 @@ module _ (d : ℕ) where
 -- ---- the conversions
 
 -- a conversion that answers a number is of a known drive and a number that converts
-pub record Answered (d : ℕ) (good : Bool) (x y : ℕ) : Type 0 where
+pub record Numbered (d : ℕ) (good : Bool) (x y : ℕ) : Type 0 where
   pub known : ltb 3 d ≡ false
   pub good-one : good ≡ true
   pub is : x ≡ y
 
-pub answered : (d : ℕ) (good : Bool) (x y : ℕ) → converted d good x ≡ Number y → Answered d good x y
-answered d good x y = go (ltb 3 d) good refl refl
+pub numbered : (d : ℕ) (good : Bool) (x y : ℕ) → converted d good x ≡ Number y → Numbered d good x y
+numbered d good x y = go (ltb 3 d) good refl refl
   where
-    go : (t u : Bool) → ltb 3 d ≡ t → good ≡ u → pick t (Refused BadImage) (pick u (Number x) (Refused NoAddress)) ≡ Number y → Answered d good x y
+    go : (t u : Bool) → ltb 3 d ≡ t → good ≡ u → pick t (Refused BadImage) (pick u (Number x) (Refused NoAddress)) ≡ Number y → Numbered d good x y
     go true u p q e = let z : _≡_ {A = ℕ} 0 1 = cc in absurd (omega arith)
     go false false p q e = let z : _≡_ {A = ℕ} 0 1 = cc in absurd (omega arith)
     go false true p q e = record { known = p; good-one = q; is = cc }
@@ -103,7 +111,7 @@ pub record Converts (d x b : ℕ) : Type 0 where
 pub converts : (d x b : ℕ) → ldaToLbn d x ≡ Number b → Converts d x b
 unfolding ldaToLbn
 converts d x b h =
-    let a = answered d _ (ldaBlock d x) b h in
+    let a = numbered d _ (ldaBlock d x) b h in
     record { known = a .known; there = rw (a .is) at (both-left _ _ (a .good-one)); names = rw (a .is) at (both-right _ _ (a .good-one)) }
 
 pub converts-of : (d x b : ℕ) → Converts d x b → ldaToLbn d x ≡ Number b
@@ -114,7 +122,7 @@ converts-of d x b c = rw (lda-block d x b (c .names), c .known, both-of (c .ther
 pub lbn-lda-lbn : (d b x : ℕ) → lbnToLda d b ≡ Number x → ldaToLbn d x ≡ Number b
 unfolding lbnToLda
 lbn-lda-lbn d b x h =
-    let a = answered d _ (lda d b) x h in
+    let a = numbered d _ (lda d b) x h in
     converts-of d x b
     (record { known = a .known; there = a .good-one; names = ap (λ (y : ℕ). isLda d y b) (sym (a .is)) ∙ lda-self d b })
 

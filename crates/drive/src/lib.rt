@@ -114,7 +114,11 @@ pub fn address(drive: usize, old: usize, b: usize) -> usize
     requires { ⌜ (old < 4294967296) × (b < 69552) ⌝ }
     ensures { λ r. ⌜ (r ≡ address drive old b) × (r < 4294967296) ⌝ }
 {
-    if is_lda(drive, old, b) { old } else { lda(drive, b) }
+    if is_lda(drive, old, b) {
+        old
+    } else {
+        lda(drive, b)
+    }
 }
 
 fn wide(x: u32) -> usize

@@ -10,7 +10,8 @@ use Rattle.base.specs.Tests.{pick}
 use Rattle.base.specs.Laws.{both-left}
 use Rattle.base.specs.Sums.{count-both}
 use Rattle.drive.specs.Address.{pda, lda}
-use Rattle.drive.specs.Fits.{pda-small, lda-small, address-small}
+use Rattle.drive.specs.Fits.{pda-small, lda-small}
+use Rattle.drive.specs.Names.{address-small}
 use Rattle.image.specs.View.{View, Rec}
 use Rattle.image.specs.Saves.{withData}
 use Rattle.image.specs.Stores.{Fits}

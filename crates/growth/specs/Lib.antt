@@ -13,3 +13,4 @@ pub mod Linked
 pub mod Sounds
 pub mod Fits
 pub mod Promise
+pub mod Kept

@@ -8,13 +8,16 @@ use native.Mathlib.Omega.{arith}
 use lib.Dec.{eqb}
 use lib.ListN.{length}
 use borrow.Author.Tests.{eqb-true, eqb-false}
-use Rattle.image.specs.View.{View, Rec}
-use Rattle.volume.specs.Files.{candidate, wellFormed, spot, present, fileOf, key, owned, free, sound}
+use Rattle.drive.specs.Address.{address}
+use Rattle.image.specs.View.{View, Rec, pair}
+use Rattle.volume.specs.Words.{lastAddressAt, lowAddressAt}
+use Rattle.volume.specs.Keys.{home, up, slot}
+use Rattle.volume.specs.Files.{candidate, wellFormed, spot, present, entry, fileOf, key, owned, free, sound}
 use Rattle.volume.specs.declared.Partition.{Partition}
 use Rattle.volume.specs.Index.{spot-home, present-home, own, member-owned, file-back, owned-not-pib}
 use Rattle.volume.specs.Frame.{SameHead, Clean}
 use Rattle.volume.specs.Plans.{freeAt}
-use Rattle.volume.specs.Writes.{over, needs, isNew, fresh, present′, spot′}
+use Rattle.volume.specs.Writes.{over, needs, isNew, fresh, present′, spot′, least′}
 use Rattle.frame.specs.Soft.{cand-same}
 use Rattle.frame.specs.Turn.{Turn, turn-clean, turn-keeps, turn-back}
 use Rattle.frame.specs.Sound.{sound-clean, sound-linked}
@@ -23,6 +26,7 @@ use Rattle.frame.specs.Drawn.{Taken, Drawn, left, drawn-free}
 use Rattle.growth.specs.Ready.{Tails, Ready, sound-tails}
 use Rattle.growth.specs.Path.{placed, new-at, fresh-at, fresh-free}
 use Rattle.growth.specs.Afterwards.{present-new, present-old, present-split, spot-new, spot-is, apart-free}
+use Rattle.growth.specs.Kept.{entry-kept}
 use Rattle.growth.specs.Written.{Written, written-present, written-spot, written-formed}
 use Rattle.growth.specs.Before.{Order}
 use Rattle.growth.specs.Done.{Done, done-written}
@@ -143,3 +147,15 @@ module _ (π : Partition) (v : View) (f r : ℕ) (dat : Rec) (ok : Ready π v f 
 
   pub sound-whole : π .s < π .e → sound π (whole π v f r dat ok fr od) ≡ true
   sound-whole l = sound-of π W (left π v so (needs π v f r) room) l (drawn-free π v so (needs π v f r) room W drawn) clean links
+
+  -- the addresses in the file's old blocks: each entry is the one that stood there where that named its block already, and so are last
+  -- address and last negative address
+  pub entries-kept : (k : ℕ) → k ≢ home → 0 < k → k < 37220 → present π v f (up k) ≡ true → present′ π v f r k ≡ true
+      → pair (whole π v f r dat ok fr od) (spot π v f (up k)) (slot k) ≡ address (π .drive) (entry π v f k) (spot′ π v f r k)
+  entries-kept = entry-kept π v f r ok tails W w
+
+  pub last-kept : pair (whole π v f r dat ok fr od) f lastAddressAt ≡ address (π .drive) (pair v f lastAddressAt) (freeAt π v 0)
+  last-kept = w .last
+
+  pub low-kept : pair (whole π v f r dat ok fr od) f lowAddressAt ≡ address (π .drive) (pair v f lowAddressAt) (spot′ π v f r (least′ π v f r))
+  low-kept = w .lowAt
