@@ -134,14 +134,8 @@ fn shugart_lbn(pda: u32, tracks: u32) -> Option<u32> {
 /// Conversions answer 1 for the drive, otherwise 10.
 fn convert(drive: u32, by: impl Fn(Drive) -> Option<u32>) -> Answer {
     let converted = || {
-        let drive = Drive::numbered(drive).ok_or(Refusal {
-            number: 1,
-            block: 0,
-        })?;
-        let number = by(drive).ok_or(Refusal {
-            number: 10,
-            block: 0,
-        })?;
+        let drive = Drive::numbered(drive).ok_or(Refusal { number: 1, block: 0 })?;
+        let number = by(drive).ok_or(Refusal { number: 10, block: 0 })?;
         Ok(Answer::done(number, 0, 0))
     };
     settle(converted())

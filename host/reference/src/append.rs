@@ -25,21 +25,11 @@ struct Append<'a> {
 /// The plan of an append to a file of a sound partition; number 8 is judged here.
 pub fn append(partition: &Partition, old: &File, buffer: &[u8]) -> Result<Plan, Refusal> {
     let r = old.length();
-    let new = File {
-        f: old.f,
-        last: r as i32,
-    };
+    let new = File { f: old.f, last: r as i32 };
     let needs = 1 + new.pointers() - old.pointers();
     let free = first_free(partition, needs)?;
     let pointer = (needs == 2).then(|| free[1]);
-    let call = Append {
-        partition,
-        old,
-        new,
-        r,
-        data: free[0],
-        pointer,
-    };
+    let call = Append { partition, old, new, r, data: free[0], pointer };
     let mut stores = vec![(call.data, call.data_record(buffer))];
     stores.extend(call.pointer_store());
     stores.extend(call.old_last_store());

@@ -85,9 +85,7 @@ pub fn plan_destroy(image: &[u8], drive: u32, s: u32, f: u32) -> Plan {
         let partition = judged(image, drive, s, true)?;
         let file = file_at(&partition, f)?;
         let mut stores = destroyed(&partition, &file);
-        let tail = partition
-            .free_tail()
-            .expect("a sound partition has a free tail");
+        let tail = partition.free_tail().expect("a sound partition has a free tail");
         let most_negative = file.most_negative_block(&partition);
         let mut record = Record::of(&partition.image, tail);
         record.set_next(partition.image.drive.pda(most_negative));
@@ -105,12 +103,8 @@ pub fn plan_destroy(image: &[u8], drive: u32, s: u32, f: u32) -> Plan {
 /// The file's own stores in destroy: the FIB, the most negative block if P >= 1, the last if L >= 0.
 fn destroyed(partition: &Partition, file: &File) -> Vec<(u32, Record)> {
     let image = &partition.image;
-    let head = partition
-        .free_head()
-        .expect("a sound partition has a free head");
-    let tail = partition
-        .free_tail()
-        .expect("a sound partition has a free tail");
+    let head = partition.free_head().expect("a sound partition has a free head");
+    let tail = partition.free_tail().expect("a sound partition has a free tail");
     let most_negative = file.most_negative_block(partition);
     let last = file.last_data_block(partition);
     let mut blocks = vec![file.f];

@@ -40,18 +40,11 @@ pub struct Image<'a> {
 impl<'a> Image<'a> {
     /// Number 1 is judged here.
     pub fn lent(bytes: &'a [u8], drive: u32) -> Result<Image<'a>, Refusal> {
-        let drive = Drive::numbered(drive).ok_or(Refusal {
-            number: 1,
-            block: 0,
-        })?;
+        let drive = Drive::numbered(drive).ok_or(Refusal { number: 1, block: 0 })?;
         let records = bytes.len() / RECORD;
         let whole = !bytes.is_empty() && bytes.len() % RECORD == 0;
         Refusal::unless(whole && records <= drive.blocks() as usize, 1)?;
-        Ok(Image {
-            bytes,
-            drive,
-            n: records as u32,
-        })
+        Ok(Image { bytes, drive, n: records as u32 })
     }
 
     /// The whole record of block b.
@@ -124,10 +117,7 @@ impl<'a> Partition<'a> {
     /// The good partition named by s; numbers 1 and 2 are judged here.
     pub fn named(bytes: &'a [u8], drive: u32, s: u32) -> Result<Partition<'a>, Refusal> {
         let image = Image::lent(bytes, drive)?;
-        let none = Refusal {
-            number: 2,
-            block: 0,
-        };
+        let none = Refusal { number: 2, block: 0 };
         if s < 1 || s >= image.n {
             return Err(none);
         }

@@ -75,12 +75,8 @@ impl Model {
             Op::Create(kind) => {
                 let f = new.take(1)?[0];
                 let description = vec![0; 104];
-                let file = ModelFile {
-                    kind: *kind,
-                    description,
-                    data: Vec::new(),
-                    blocks: vec![f],
-                };
+                let file =
+                    ModelFile { kind: *kind, description, data: Vec::new(), blocks: vec![f] };
                 new.files.insert(f, file);
             }
             Op::Write(f, r, data) => new.write(*f, *r as usize, data)?,
@@ -124,11 +120,7 @@ impl Model {
 
     /// The same files, the free blocks ascending: what repair leaves.
     fn repaired(mut self) -> Model {
-        let owned: Vec<u32> = self
-            .files
-            .values()
-            .flat_map(|file| file.blocks.clone())
-            .collect();
+        let owned: Vec<u32> = self.files.values().flat_map(|file| file.blocks.clone()).collect();
         self.free = (S + 1..=E).filter(|b| !owned.contains(b)).collect();
         self
     }
@@ -185,19 +177,9 @@ fn step(rng: &mut Rng, image: &mut [u8], drive: u32, model: Model) -> Model {
     };
     let stores = plan.stores.len();
     assert!((1..=7).contains(&stores) && plan.deciding < stores);
-    let limit = if rng.below(2) == 0 {
-        ALL
-    } else {
-        rng.below(stores as u32 + 1)
-    };
+    let limit = if rng.below(2) == 0 { ALL } else { rng.below(stores as u32 + 1) };
     let made = stores.min(limit as usize);
-    assert_eq!(
-        call(image, drive, &op, limit),
-        Answer {
-            made: made as u32,
-            ..plan.answer
-        }
-    );
+    assert_eq!(call(image, drive, &op, limit), Answer { made: made as u32, ..plan.answer });
     if made == stores {
         return new;
     }

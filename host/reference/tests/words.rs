@@ -43,16 +43,8 @@ fn roles(image: &[u8]) -> Vec<(u32, Role)> {
     let long = inspect::file_blocks(image, 1, 2, 3).unwrap();
     let short = inspect::file_blocks(image, 1, 2, 5).unwrap();
     let free = inspect::free_chain(image, 1, 2).unwrap();
-    let mut roles = vec![
-        (2, Role::Pib),
-        (3, Role::Fib),
-        (4, Role::Fib),
-        (5, Role::Fib),
-    ];
-    roles.extend([
-        (long[0], Role::Pointer(3, 8)),
-        (long[1], Role::Pointer(3, 128)),
-    ]);
+    let mut roles = vec![(2, Role::Pib), (3, Role::Fib), (4, Role::Fib), (5, Role::Fib)];
+    roles.extend([(long[0], Role::Pointer(3, 8)), (long[1], Role::Pointer(3, 128))]);
     roles.extend([3, 66, 67, 202].map(|at| (long[at], Role::Data(3))));
     roles.extend([1, 2, 3].map(|at| (short[at], Role::Data(5))));
     roles.extend([0, 1, 2, free.len() - 3, free.len() - 1].map(|at| (free[at], Role::Free)));
@@ -96,15 +88,7 @@ fn a_free_candidate_is_malformed() {
 fn entries_outside_and_swapped() {
     let whole = image();
     let lda = |lbn| lbn_to_lda(1, lbn).a;
-    for wrong in [
-        0,
-        lda(1),
-        lda(2),
-        lda(3),
-        lda(261),
-        lda(262),
-        lbn_to_pda(1, 7).a,
-    ] {
+    for wrong in [0, lda(1), lda(2), lda(3), lda(261), lda(262), lbn_to_pda(1, 7).a] {
         let mut image = whole.clone();
         set_pair(&mut image, 3, 8 + 52, wrong);
         assert_eq!(check(&image, 1, 2), malformed(3));
