@@ -85,14 +85,16 @@ impl Drive {
         }
     }
 
-    /// The LDA of an LBN of the drive: the LBN's 19 bits stand at bits 8-26.
+    /// The clean LDA of an LBN of the drive: the LBN's 19 bits stand at bits 8-26, and bits 0-7, which
+    /// are reserved, are zero.
     pub fn lda(self, lbn: u32) -> u32 {
         self.lda_mark() | lbn << 8
     }
 
-    /// The LBN whose LDA this is, if there is one.
+    /// The LBN that an LDA names, if it is one. The reserved bits are not looked at; without the mark
+    /// they make no address, so that nil, and what has only such bits, names nothing.
     pub fn lbn_of_lda(self, lda: u32) -> Option<u32> {
-        if lda & 0xFF != 0 || lda & (0b11111 << 27) != self.lda_mark() {
+        if lda & (0b11111 << 27) != self.lda_mark() {
             return None;
         }
         self.has(lda >> 8 & 0x7_FFFF)

@@ -131,7 +131,7 @@ impl<'a> Partition<'a> {
         }
     }
 
-    /// The block of s+1..e whose LDA this is, if there is one.
+    /// The block of s+1..e that this LDA names, if it is one.
     pub fn block_of_lda(&self, lda: u32) -> Option<u32> {
         self.image.drive.lbn_of_lda(lda).filter(|&b| self.holds(b))
     }

@@ -72,9 +72,10 @@ fn two_for_no_good_partition() {
     for (start, end) in [(lda(3), lda(20)), (0, lda(20)), (lda(2), lda(2)), (lda(2), lda(1))] {
         all_refused(&with(start, end), 0, 2, 2);
     }
-    for (start, end) in [(lda(2), lda(22)), (lda(2), 0), (lda(2), lda(20) + 1), (2, 20)] {
+    for (start, end) in [(lda(2), lda(22)), (lda(2), 0), (2, 20), (lda(2), 1), (0xFF, lda(20))] {
         all_refused(&with(start, end), 0, 2, 2);
     }
+    assert_eq!(check(&with(lda(2), lda(20) + 1), 0, 2), check(&whole, 0, 2));
     assert_eq!(check(&with(lda(2), lda(21)), 0, 2), refused(5));
     assert_eq!(read(&whole, 0, 3, 3, 0, &mut []), refused(2));
 }

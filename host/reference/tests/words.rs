@@ -39,6 +39,19 @@ fn expected(role: Role, b: u32, word: usize) -> Option<Answer> {
     }
 }
 
+/// Whether this word is the low word of an LDA that check needs; bits 0-7 of it may be any. A nil entry
+/// is none: it must stay nil.
+fn holds_reserved_bits(image: &[u8], role: Role, b: u32, word: usize) -> bool {
+    let data = word.wrapping_sub(8);
+    let place = match role {
+        Role::Pib => [0, 2, 118, 120].contains(&data),
+        Role::Fib => (52..244).contains(&data) && data % 2 == 0 || [251, 254].contains(&data),
+        Role::Pointer(_, used) => data < 2 * used && data % 2 == 0,
+        Role::Data(_) | Role::Free => false,
+    };
+    place && pair(image, b, word) != 0
+}
+
 fn roles(image: &[u8]) -> Vec<(u32, Role)> {
     let long = inspect::file_blocks(image, 1, 2, 3).unwrap();
     let short = inspect::file_blocks(image, 1, 2, 5).unwrap();
@@ -58,7 +71,7 @@ fn every_wrong_word() {
     assert_eq!(good.outcome, DONE);
     for (b, role) in roles(&whole) {
         for at in 0..264 {
-            for flip in [1, 0x0100, 0x8000, 0xFFFF] {
+            for flip in [1, 0x00FF, 0x0100, 0x8000, 0xFFFF] {
                 let mut image = whole.clone();
                 set_word(&mut image, b, at, word(&whole, b, at) ^ flip);
                 let answer = check(&image, 1, 2);
@@ -66,6 +79,7 @@ fn every_wrong_word() {
                     // End 260 becomes 261, the image's last block, or 4, which cuts file 3.
                     (Role::Pib, 120, 0x0100) => refused(5),
                     (Role::Pib, 121, 1) => malformed(3),
+                    (_, _, 0..=0xFF) if holds_reserved_bits(&whole, role, b, at) => good,
                     _ => expected(role, b, at).unwrap_or(good),
                 };
                 assert_eq!(answer, wanted, "block {b} word {at} flip {flip}");
