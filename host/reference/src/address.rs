@@ -100,6 +100,15 @@ impl Drive {
         self.has(lda >> 8 & 0x7_FFFF)
     }
 
+    /// What is to stand where `old` stands, so that it names an LBN of the drive: `old` as it is, with
+    /// its reserved bits, if it names the LBN already, and else the clean LDA.
+    pub fn kept_or_clean_lda(self, old: u32, lbn: u32) -> u32 {
+        match self.lbn_of_lda(old) {
+            Some(named) if named == lbn => old,
+            _ => self.lda(lbn),
+        }
+    }
+
     /// The FileID of an LBN, if both exist.
     pub fn fileid(self, lbn: u32) -> Option<u32> {
         let lbn = self.has(lbn)?;

@@ -37,9 +37,8 @@ pub fn plan_create(image: &[u8], drive: u32, s: u32, kind: u16) -> Plan {
 
 /// The FIB of a file with L = -1.
 fn empty_file(partition: &Partition, f: u32, kind: u16) -> Record {
-    let drive = partition.image.drive;
     let mut fib = Record::of(&partition.image, f);
-    fib.set_serial(drive.pda(f));
+    fib.set_serial(partition.image.drive.pda(f));
     fib.set_relative(FIB);
     fib.set_next(NIL);
     fib.set_previous(NIL);
@@ -47,9 +46,9 @@ fn empty_file(partition: &Partition, f: u32, kind: u16) -> Record {
     fib.set_data_word(KIND, kind);
     fib.set_data_word(BLOCKS_IN_USE, 1);
     fib.set_data_word(LAST_BLOCK, -1_i16 as u16);
-    fib.set_data_pair(LAST_ADDRESS, drive.lda(f));
+    fib.set_lda(LAST_ADDRESS, f);
     fib.set_data_word(LAST_NEGATIVE, FIB as u16);
-    fib.set_data_pair(LAST_NEGATIVE_ADDRESS, drive.lda(f));
+    fib.set_lda(LAST_NEGATIVE_ADDRESS, f);
     fib
 }
 
@@ -92,7 +91,7 @@ pub fn plan_destroy(image: &[u8], drive: u32, s: u32, f: u32) -> Plan {
         stores.push((tail, record));
         let last = file.last_data_block(&partition);
         let mut pib = Record::of(&partition.image, s);
-        pib.set_data_pair(FREE_TAIL, partition.image.drive.lda(last));
+        pib.set_lda(FREE_TAIL, last);
         pib.set_data_pair(NUMBER_FREE, partition.number_free() + file.blocks_in_use());
         stores.push((s, pib));
         Ok(Plan::done(stores, Some(f), 0))

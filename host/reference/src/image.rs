@@ -29,6 +29,12 @@ pub const PARTITION_END: usize = 120;
 /// The largest size m of a good partition.
 const LARGEST: u32 = 32_767;
 
+/// The two words of a record from `word` on, as one number.
+pub fn pair_at(record: &[u8], word: usize) -> u32 {
+    let bytes = &record[2 * word..2 * word + 4];
+    u32::from_le_bytes([bytes[0], bytes[1], bytes[2], bytes[3]])
+}
+
 #[derive(Clone, Copy)]
 pub struct Image<'a> {
     bytes: &'a [u8],
@@ -63,9 +69,7 @@ impl<'a> Image<'a> {
     }
 
     fn pair(&self, b: u32, word: usize) -> u32 {
-        let at = RECORD * b as usize + 2 * word;
-        let bytes = &self.bytes[at..at + 4];
-        u32::from_le_bytes([bytes[0], bytes[1], bytes[2], bytes[3]])
+        pair_at(self.record(b), word)
     }
 
     pub fn serial(&self, b: u32) -> u32 {

@@ -76,10 +76,9 @@ fn repaired(
 }
 
 fn repaired_pib(partition: &Partition, free: &[u32]) -> Record {
-    let drive = partition.image.drive;
     let mut pib = Record::of(&partition.image, partition.s);
-    pib.set_data_pair(FREE_HEAD, drive.lda(free[0]));
-    pib.set_data_pair(FREE_TAIL, drive.lda(free[free.len() - 1]));
+    pib.set_lda(FREE_HEAD, free[0]);
+    pib.set_lda(FREE_TAIL, free[free.len() - 1]);
     pib.set_data_pair(NUMBER_FREE, free.len() as u32);
     pib
 }
