@@ -243,12 +243,13 @@ fn partitions_that_are_not_good() {
     let cases = [
         ("start is another block", 118, lda(2)),
         ("start is nil", 118, 0),
+        ("start is reserved bits alone", 118, 0x80),
         ("start is a PDA", 118, reference::lbn_to_pda(PLACE.drive, 1).a),
         ("end is the start", 120, lda(1)),
         ("end is before the start", 120, lda(0)),
         ("end is the record after the last", 120, lda(70)),
         ("end is nil", 120, 0),
-        ("end has a low bit", 120, lda(68) + 1),
+        ("end is reserved bits alone", 120, 0xFF),
         ("end is a hard drive's", 120, reference::lbn_to_lda(0, 68).a),
     ];
     for (what, at, value) in cases {
