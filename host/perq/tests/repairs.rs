@@ -8,14 +8,10 @@ use trials::draw::{self, candidates};
 use trials::images::{pair, set_pair, shuffled, some_lengths, Place, DATA_WORD};
 use trials::low_bits::{self, Twins};
 use trials::settings::{cases, rng};
+use trials::sweep::must_be_sound;
 
 fn repair(place: &Place) -> Call {
     place.call(Name::Repair)
-}
-
-fn must_be_sound(both: &mut Both, place: &Place) {
-    let answer = both.call(&place.call(Name::Check));
-    assert_eq!(answer.outcome, 0, "{answer:?}");
 }
 
 #[test]
