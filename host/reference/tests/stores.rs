@@ -19,18 +19,6 @@ fn one_file(length: u32) -> Vec<u8> {
     sample::scattered(DRIVE, 432, 1, 420, &[length], 5)
 }
 
-/// The image with these words changed; a pair is two words.
-fn with(image: &[u8], words: &[(u32, usize, u16)], pairs: &[(u32, usize, u32)]) -> Vec<u8> {
-    let mut image = image.to_vec();
-    for &(b, at, value) in words {
-        set_word(&mut image, b, at, value);
-    }
-    for &(b, at, value) in pairs {
-        set_pair(&mut image, b, at, value);
-    }
-    image
-}
-
 #[test]
 fn append_store_lists() {
     // r, stores: data, pointer block, old last, old most negative, FIB, new first free, PIB.
