@@ -2,8 +2,7 @@
 //! leaves behind, and blocks whose numbers need more than 16 bits.
 
 use perq::{raw, Drive};
-use reference::image::RECORD;
-use reference::sample::{content, fresh, scattered, Rng};
+use reference::sample::{fresh, scattered, Rng};
 use trials::both::Both;
 use trials::call::{Call, Name};
 use trials::cuts::every_limit;
@@ -260,24 +259,4 @@ fn descriptions_are_set_and_read_back() {
         let reader = Call::new(Name::Description, 1, 4).with_file(f).with_buffer(&[0; 104]);
         assert_eq!(both.call_with(&reader, &[]).1, text);
     }
-}
-
-#[test]
-fn typed_answers() {
-    let drive = Drive::Shugart12;
-    let mut image = perq::blank(drive, 8, 1, 7).expect("a partition");
-    assert_eq!(image.len(), 8 * RECORD);
-    assert_eq!(perq::repair(&mut image, drive, 1, perq::ALL), Ok(7));
-    assert_eq!(
-        perq::create(&mut image, drive, 1, 0, perq::ALL),
-        Ok(perq::Created { file: 2, made: 3 })
-    );
-    assert_eq!(perq::write(&mut image, drive, 1, 2, 0, &content(0, 0, 0), perq::ALL), Ok(4));
-    assert_eq!(perq::describe(&mut image, drive, 1, 2, &[7; 104], perq::ALL), Ok(1));
-    assert_eq!(perq::description(&image, drive, 1, 2), Ok([7; 104]));
-    assert_eq!(perq::destroy(&mut image, drive, 1, 2, 2), Ok(2));
-    assert_eq!(perq::check(&image, drive, 1), Err(perq::Refusal::Unsound));
-    assert_eq!(perq::blank(drive, 8, 0, 7), Err(perq::Refusal::Partition));
-    assert_eq!(perq::blank(drive, 8, 1, 8), Err(perq::Refusal::Partition));
-    assert_eq!(perq::blank(Drive::Floppy, 433, 1, 7), Err(perq::Refusal::Image));
 }

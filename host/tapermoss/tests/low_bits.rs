@@ -5,7 +5,7 @@ mod common;
 
 use common::planted::{letters, S};
 use common::{differing, object, said, set_bytes, set_word, with, Folder, FLOPPY};
-use reference::file::LAST_ADDRESS;
+use reference::file::{LAST_ADDRESS, LAST_NEGATIVE_ADDRESS};
 use reference::image::{FREE_HEAD, FREE_TAIL, NUMBER_FREE, PARTITION_END, PARTITION_START};
 use reference::lbn_to_lda;
 use serde_json::json;
@@ -105,7 +105,9 @@ fn it_is_changed_as_without_them_and_keeps_them() {
     twins.must_still_be(&clean, &laid);
     // File 9 has its blocks 0 to 2 by the addresses that it had, and the new ones by clean ones.
     let of = |word: usize| Spot { b: 9, at: DATA_WORD + word };
-    assert_eq!(of(52).get(&laid), of(52).get(&twins.laid));
+    for spot in [of(52), of(52 + 2 * 2), of(LAST_NEGATIVE_ADDRESS)] {
+        assert_eq!(spot.get(&laid), spot.get(&twins.laid), "{spot:?} keeps its bits");
+    }
     assert_eq!(
         [52 + 2 * 3, 52 + 2 * 4, LAST_ADDRESS].map(|word| of(word).get(&laid) & LOW),
         [0; 3]
