@@ -7,7 +7,7 @@ use common::{block, led, listed, small, DRIVE, S};
 use perq::{Refusal, Target};
 use reference::image::{RELATIVE, ROOT_DIRECTORY};
 use reference::inspect::file_blocks;
-use reference::sample::Rng;
+use reference::sample::{scattered, Rng};
 use trials::both::{told, Both};
 use trials::call::{Call, Name};
 use trials::damage::damage;
@@ -120,12 +120,35 @@ fn every_sequence_of_calls_leaves_twins() {
     assert!(Name::CHANGING.iter().all(|&name| tally.times(name, 0) > 100));
 }
 
+/// The partition of the small tree.
+fn place_of_small() -> Place {
+    let n = (small().len() / perq::RECORD) as u32;
+    Place { drive: DRIVE.number(), n, s: S, e: n - 2 }
+}
+
+/// So many LDAs has a partition, and in all of them bits are laid, none elsewhere.
+fn must_lay(image: Vec<u8>, place: &Place, count: usize) {
+    let Twins { clean, laid, spots } = Twins::of(image, place, &mut rng(83));
+    assert!(spots.iter().all(|spot| spot.get(&clean) & LOW == 0 && spot.get(&laid) & LOW != 0));
+    let differing = clean.iter().zip(&laid).filter(|(one, other)| one != other).count();
+    assert_eq!((spots.len(), differing), (count, count));
+}
+
+#[test]
+fn bits_are_laid_into_every_lda() {
+    // The partition's own block has five with a root and four without, a file's last two addresses are two, and the rest is
+    // its index, pointer blocks included. The small tree has four lines that name a file, in directories of one block each.
+    must_lay(small(), &place_of_small(), 5 + 4 * 2 + (1 + 1 + 2) + 4);
+    for drive in 0..4 {
+        let place = Place { drive, n: 300, s: 3, e: 297 };
+        let image = scattered(drive, place.n, place.s, place.e, &[0, 3, 65, 193], 1);
+        must_lay(image, &place, 4 + 4 * 2 + 3 + (65 + 1) + (193 + 2));
+    }
+}
+
 #[test]
 fn directories_are_read_alike() {
-    let clean = small();
-    let n = (clean.len() / perq::RECORD) as u32;
-    let place = Place { drive: DRIVE.number(), n, s: S, e: n - 2 };
-    let twins = Twins::of(clean, &place, &mut rng(82));
+    let twins = Twins::of(small(), &place_of_small(), &mut rng(82));
     let root = pair(&twins.laid, S, DATA_WORD + ROOT_DIRECTORY);
     assert_ne!(root & LOW, 0);
     for path in ["", "notes", "Sub", "Sub>deep.pas", "Sub>Gone", "Last", "None", "Notes>X"] {
