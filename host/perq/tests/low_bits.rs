@@ -86,9 +86,9 @@ fn a_file_that_is_written_described_and_destroyed() {
         assert_eq!(changed_blocks(&before, both.image()), [2, 3]);
         let behind = RECORD * 2 + 16 + 104..RECORD * 3;
         assert_eq!(both.image()[behind.clone()], before[behind], "all but the description stays");
-        every_limit(&mut both, &place.destroy(2));
-        must_have(both.image(), &place, [(4, 0), (3, 0), (1, 4), (7, 128)]);
         both.edit(|image| set_lda(image, 1, FREE_HEAD, place.lda(4) + 9));
+        every_limit(&mut both, &place.destroy(2));
+        must_have(both.image(), &place, [(4, 9), (3, 0), (1, 4), (7, 128)]);
         // Chain 4, 5, 6, 7, 2, 3 becomes 2, 3, 4, 5, 6, 7.
         every_limit(&mut both, &place.call(Name::Repair));
         must_have(both.image(), &place, [(2, 0), (7, 0), (1, 4), (7, 128)]);

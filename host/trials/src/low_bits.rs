@@ -7,7 +7,7 @@ use crate::images::{pair, set_pair, word, Place, DATA_WORD};
 use crate::sweep;
 use reference::directory::{DIRECTORY, SORT};
 use reference::file::{self, direct_word, entry_word, indirect_word, INDIRECTS, LAST_RELATIVE};
-use reference::image::{RECORD, ROOT_DIRECTORY};
+use reference::image::ROOT_DIRECTORY;
 use reference::sample::Rng;
 use reference::{lda_to_lbn, DONE};
 
@@ -30,11 +30,6 @@ impl Spot {
     pub fn set_bits(&self, image: &mut [u8], bits: u32) {
         let lda = self.get(image) & !LOW | bits;
         set_pair(image, self.b, self.at, lda);
-    }
-
-    /// The byte of the image that has the reserved bits.
-    fn byte(&self) -> usize {
-        RECORD * self.b as usize + 2 * self.at
     }
 }
 
@@ -135,15 +130,16 @@ impl Twins {
         Twins { clean, laid, spots }
     }
 
-    /// The two after the same calls differ in nothing but bits that were laid and are there still.
+    /// The two after the same calls differ in nothing but bits that were laid, in addresses that are as they were.
     ///
     /// # Panics
     /// If they differ in more.
     pub fn must_still_be(&self, clean: &[u8], laid: &[u8]) {
         let mut cleaned = laid.to_vec();
-        for at in self.spots.iter().map(Spot::byte).filter(|&at| clean[at] != laid[at]) {
-            assert_eq!((clean[at], laid[at]), (0, self.laid[at]), "reserved bits at byte {at}");
-            cleaned[at] = 0;
+        for spot in self.spots.iter().filter(|spot| spot.get(clean) != spot.get(laid)) {
+            let at_first = (spot.get(&self.clean), spot.get(&self.laid));
+            assert_eq!((spot.get(clean), spot.get(laid)), at_first, "the LDA at {spot:?}");
+            spot.set_bits(&mut cleaned, 0);
         }
         assert!(cleaned == clean, "the twins differ in more than reserved bits");
     }
