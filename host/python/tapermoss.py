@@ -368,12 +368,12 @@ def pda_to_lbn(drive: int, pda: int) -> int:
 
 
 def lbn_to_lda(drive: int, lbn: int) -> int:
-    """The logical disk address of a block, as indexes hold it: low word + 65,536 * high word."""
+    """The logical disk address of a block, as indexes hold it: low word + 65,536 * high word. Its reserved bits are zero."""
     return _given(call('lbn_to_lda', drive, lbn)).a
 
 
 def lda_to_lbn(drive: int, lda: int) -> int:
-    """The block of a logical disk address."""
+    """The block of a logical disk address. Its reserved bits, the lowest eight, are ignored."""
     return _given(call('lda_to_lbn', drive, lda)).a
 
 

@@ -14,12 +14,20 @@ pub fn pda_to_lbn(drive: Drive, pda: u32) -> Result<u32, Refusal> {
     Ok(done(raw::pda_to_lbn(drive.number(), pda))?.a)
 }
 
-/// The logical disk address of a block, as indexes and the partition's own block hold it.
+/// The logical disk address of a block, as indexes and the partition's own block hold it; its reserved bits are zero.
 pub fn lbn_to_lda(drive: Drive, lbn: u32) -> Result<u32, Refusal> {
     Ok(done(raw::lbn_to_lda(drive.number(), lbn))?.a)
 }
 
-/// The block of a logical disk address.
+/// The block of a logical disk address. Its reserved bits, 0-7 of the low word, are ignored.
+///
+/// ```
+/// use perq::{lbn_to_lda, lda_to_lbn, Drive};
+///
+/// let lda = 65_536 * 0o140000 + 0o151000;
+/// assert_eq!(lbn_to_lda(Drive::Shugart24, 210), Ok(lda));
+/// assert_eq!(lda_to_lbn(Drive::Shugart24, lda + 0o17), Ok(210));
+/// ```
 pub fn lda_to_lbn(drive: Drive, lda: u32) -> Result<u32, Refusal> {
     Ok(done(raw::lda_to_lbn(drive.number(), lda))?.a)
 }

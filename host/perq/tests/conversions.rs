@@ -143,3 +143,34 @@ fn nil_and_the_first_numbers_past_a_drive_are_refused() {
     assert_eq!(perq::fileid_to_lbn(Drive::Shugart12, 0), Ok(0));
     assert_eq!(perq::fileid_to_lbn(Drive::Floppy, 0), Err(Refusal::Address));
 }
+
+/// The reserved bits are 0-7 of an LDA's low word. Back from the block comes the address without them.
+#[test]
+fn every_value_of_the_reserved_bits_names_the_same_block() {
+    for drive in 0..4 {
+        let mark = if drive == 3 { 0o160000 } else { 0o140000 };
+        for lbn in (0..blocks(drive)).step_by(7).chain([blocks(drive) - 1]) {
+            let clean = 65_536 * (mark + lbn / 256) + 256 * (lbn % 256);
+            assert_eq!(convert(Name::LbnToLda, drive, lbn).a, clean);
+            for address in clean..=clean + 255 {
+                let answer = convert(Name::LdaToLbn, drive, address);
+                assert_eq!((answer.outcome, answer.a), (raw::DONE, lbn), "{address:o} O");
+            }
+        }
+    }
+}
+
+#[test]
+fn reserved_bits_make_no_address_of_what_is_none() {
+    for drive in 0..4 {
+        let last = reference::lbn_to_lda(drive, blocks(drive) - 1).a;
+        let other = if drive == 3 { 0o140000 } else { 0o160000 };
+        // Nil, the block after the last, another kind of drive's address, and bit 15 or 14 of the high word clear.
+        for none in [0, last + 256, 65_536 * other, last - (1 << 31), last - (1 << 30)] {
+            for address in none..=none + 255 {
+                let answer = convert(Name::LdaToLbn, drive, address);
+                assert_eq!((answer.outcome, answer.number), (raw::REFUSED, 10), "{address:o} O");
+            }
+        }
+    }
+}

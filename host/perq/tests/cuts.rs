@@ -9,6 +9,7 @@ use trials::both::Both;
 use trials::call::{Call, Name};
 use trials::cuts::plan;
 use trials::images::{word, Place, DATA_WORD};
+use trials::low_bits;
 use trials::settings::{cases, rng};
 
 /// What a person would call a file: its place, its kind, its description and its bytes.
@@ -118,15 +119,18 @@ fn try_call(
     Some(whole.image().to_vec())
 }
 
-/// Tries so many states that calls lead to from a fresh partition, picked at random among those reached.
+/// Tries so many states that calls lead to from a fresh partition, picked at random among those reached; one in three has
+/// bits laid into all its LDAs first.
 fn explore(place: &Place, states: u64, rng: &mut Rng) {
-    let mut reached = vec![fresh(place.drive, place.n, place.s, place.e)];
+    let fresh = fresh(place.drive, place.n, place.s, place.e);
+    let mut reached = low_bits::both_ways(fresh, place, rng).to_vec();
     let mut known: HashSet<Vec<u8>> = reached.iter().cloned().collect();
     for _ in 0..states {
         if reached.is_empty() {
             return;
         }
         let state = reached.swap_remove(rng.below(reached.len() as u32) as usize);
+        let state = low_bits::perhaps(state, place, rng);
         let before = table(&state, place);
         for call in every_call(&before, place) {
             if let Some(next) = try_call(&state, &before, &call, place, rng) {

@@ -1,23 +1,26 @@
 //! Reading from damaged images: every field that a rule reads, records out of place, and bytes of no meaning at all.
 
 use reference::image::{RECORD, RELATIVE};
+use reference::inspect::file_blocks;
 use reference::sample::{blank, Rng};
 use reference::tree_sample::Tree;
 use trials::both::Both;
-use trials::call::{Call, Name};
+use trials::call::Name;
 use trials::damage::{self, Field};
 use trials::draw::{self, candidates};
 use trials::images::{set_pair, set_word, shuffled, some_lengths, word, Place, DATA_WORD};
+use trials::low_bits;
 use trials::settings::{cases, long_run, rng};
 use trials::sweep;
 use trials::tally::Tally;
 use trials::trees::{some_tree, Planted};
 
-/// A partition with an empty file, a short one, and one each with one and with two pointer blocks.
-fn base(drive: u32, rng: &mut Rng) -> (Place, Vec<u8>) {
+/// A partition with an empty file, a short one, and one each with one and with two pointer blocks; without reserved bits in
+/// its LDAs, and with some in each.
+fn base(drive: u32, rng: &mut Rng) -> (Place, [Vec<u8>; 2]) {
     let place = Place { drive, n: 300, s: 3, e: 297 };
     let image = shuffled(&place, &[0, 2, 65, 193], rng);
-    (place, image)
+    (place, low_bits::both_ways(image, &place, rng))
 }
 
 /// Puts every likely value into each of these fields of block b, one at a time, and looks at the whole partition and at
@@ -46,11 +49,13 @@ fn drives(turn: u32) -> Vec<u32> {
 #[test]
 fn each_field_of_a_file_block() {
     for drive in drives(0) {
-        let (place, image) = base(drive, &mut rng(10));
-        let files = candidates(&image, &place);
-        let mut both = Both::new(image);
-        for f in files {
-            try_fields(&mut both, &place, f, f, &damage::fib_fields());
+        let (place, images) = base(drive, &mut rng(10));
+        for image in images {
+            let files = candidates(&image, &place);
+            let mut both = Both::new(image);
+            for f in files {
+                try_fields(&mut both, &place, f, f, &damage::fib_fields());
+            }
         }
     }
 }
@@ -58,21 +63,25 @@ fn each_field_of_a_file_block() {
 #[test]
 fn each_field_of_the_partition_block() {
     for drive in 0..4 {
-        let (place, image) = base(drive, &mut rng(11));
-        let f = candidates(&image, &place)[0];
-        try_fields(&mut Both::new(image), &place, place.s, f, &damage::pib_fields());
+        let (place, images) = base(drive, &mut rng(11));
+        for image in images {
+            let f = candidates(&image, &place)[0];
+            try_fields(&mut Both::new(image), &place, place.s, f, &damage::pib_fields());
+        }
     }
 }
 
 #[test]
 fn each_field_of_a_header() {
     for drive in drives(2) {
-        let (place, image) = base(drive, &mut rng(12));
-        let files = candidates(&image, &place);
-        let mut both = Both::new(image);
-        let step = if long_run() { 1 } else { 5 };
-        for b in (place.s..=place.e).step_by(step).chain(files.iter().copied()) {
-            try_fields(&mut both, &place, b, files[3], &damage::header_fields());
+        let (place, images) = base(drive, &mut rng(12));
+        for image in images {
+            let files = candidates(&image, &place);
+            let mut both = Both::new(image);
+            let step = if long_run() { 1 } else { 5 };
+            for b in (place.s..=place.e).step_by(step).chain(files.iter().copied()) {
+                try_fields(&mut both, &place, b, files[3], &damage::header_fields());
+            }
         }
     }
 }
@@ -80,16 +89,17 @@ fn each_field_of_a_header() {
 #[test]
 fn each_entry_of_a_pointer_block() {
     for drive in drives(1) {
-        let (place, image) = base(drive, &mut rng(13));
-        let files = candidates(&image, &place);
-        let long =
-            files.iter().copied().max_by_key(|&f| sweep::length(&image, f)).expect("four files");
-        let own: Vec<u32> =
-            reference::inspect::file_blocks(&image, drive, place.s, long).expect("sound");
-        let pointers = own.iter().filter(|&&b| (word(&image, b, RELATIVE) as i16) < -1);
-        let mut both = Both::new(image.clone());
-        for &b in pointers {
-            try_fields(&mut both, &place, b, long, &damage::pointer_fields());
+        let (place, images) = base(drive, &mut rng(13));
+        for image in images {
+            let files = candidates(&image, &place);
+            let long = files.into_iter().max_by_key(|&f| sweep::length(&image, f)).expect("files");
+            let own = file_blocks(&image, drive, place.s, long).expect("sound");
+            let is_pointer = |b: &u32| (word(&image, *b, RELATIVE) as i16) < -1;
+            let pointers: Vec<u32> = own.into_iter().filter(is_pointer).collect();
+            let mut both = Both::new(image);
+            for b in pointers {
+                try_fields(&mut both, &place, b, long, &damage::pointer_fields());
+            }
         }
     }
 }
@@ -140,6 +150,7 @@ fn random_damage() {
                 (place, image, None)
             }
         };
+        image = low_bits::perhaps(image, &place, &mut rng);
         for _ in 0..rng.below(4) {
             damage::damage(&mut image, &place, &mut rng);
         }
@@ -179,7 +190,7 @@ fn random_records_in_a_good_partition() {
     let (mut rng, mut tally) = (rng(15), Tally::default());
     for _ in 0..cases(40_000) / 10 {
         let place = Place::whole(rng.below(4), 3 + rng.below(12));
-        let image = plausible(&place, &mut rng);
+        let image = low_bits::perhaps(plausible(&place, &mut rng), &place, &mut rng);
         some_calls(image, &place, None, 10, &mut rng, &mut tally);
     }
 }
@@ -205,19 +216,24 @@ fn check_and_next_file_on_every_pair_of_swapped_and_copied_records() {
     for drive in 0..4 {
         let place = Place { drive, n: 14, s: 1, e: 13 };
         let image = shuffled(&place, &[2, 0, 3], &mut rng);
-        let files = candidates(&image, &place);
-        for one in 1..14 {
-            for other in 1..14 {
-                let mut both = Both::new(image.clone());
-                let (from, to) = (RECORD * one, RECORD * other);
-                both.edit(|image| image.copy_within(from..from + RECORD, to));
-                sweep::partition(&mut both, &place, &files);
-                both.edit(|copy| {
-                    copy[from..from + RECORD].copy_from_slice(&image[to..to + RECORD])
-                });
-                sweep::partition(&mut both, &place, &files);
-                both.call(&Call::new(Name::Show, drive, 1).with_file(files[0]));
-            }
+        for image in low_bits::both_ways(image, &place, &mut rng) {
+            swap_and_copy(&image, &place);
+        }
+    }
+}
+
+/// Copies each record over each other one, and then has the two change places.
+fn swap_and_copy(image: &[u8], place: &Place) {
+    let files = candidates(image, place);
+    for one in 1..14 {
+        for other in 1..14 {
+            let mut both = Both::new(image.to_vec());
+            let (from, to) = (RECORD * one, RECORD * other);
+            both.edit(|image| image.copy_within(from..from + RECORD, to));
+            sweep::partition(&mut both, place, &files);
+            both.edit(|copy| copy[from..from + RECORD].copy_from_slice(&image[to..to + RECORD]));
+            sweep::partition(&mut both, place, &files);
+            both.call(&place.call(Name::Show).with_file(files[0]));
         }
     }
 }

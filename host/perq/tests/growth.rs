@@ -2,13 +2,13 @@
 //! leaves behind, and blocks whose numbers need more than 16 bits.
 
 use perq::{raw, Drive};
-use reference::image::RECORD;
-use reference::sample::{content, fresh, scattered};
+use reference::sample::{fresh, scattered, Rng};
 use trials::both::Both;
 use trials::call::{Call, Name};
 use trials::cuts::every_limit;
 use trials::draw::candidates;
 use trials::images::{pair, shuffled, word, Place};
+use trials::low_bits;
 use trials::settings::rng;
 use trials::sweep;
 use trials::tally::is_refusal;
@@ -23,23 +23,36 @@ fn free_blocks(both: &mut Both, place: &Place) -> u32 {
 fn a_file_grows_from_nothing_across_two_pointer_blocks() {
     for drive in 0..4 {
         let place = Place { drive, n: 230, s: 2, e: 228 };
-        let mut both = Both::new(shuffled(&place, &[], &mut rng(30)));
-        let f = every_limit(&mut both, &place.create(0xFFFF)).a;
-        for r in 0..200 {
-            let answer = match r {
-                0..=2 | 62..=66 | 190..=194 => every_limit(&mut both, &place.write(f, r, r as u8)),
-                _ => both.call(&place.write(f, r, r as u8)),
-            };
-            assert_eq!(answer.made, stores_of_an_append(r), "append of block {r}");
-            let refused = both.call(&place.write(f, r + 2, 0));
-            assert!(is_refusal(refused, 7), "{refused:?}");
-        }
-        assert_eq!(free_blocks(&mut both, &place), 226 - 1 - 200 - 2);
-        sweep::whole_file(&mut both, &place, f);
-        every_limit(&mut both, &place.write(f, 130, 99));
-        every_limit(&mut both, &place.destroy(f));
-        assert_eq!(free_blocks(&mut both, &place), 226);
+        let image = shuffled(&place, &[], &mut rng(30));
+        grow_and_destroy(&mut Both::new(image.clone()), &place, |_| {});
+        let mut rng = rng(33);
+        grow_and_destroy(&mut Both::new(image), &place, |both| lay(both, &place, &mut rng));
     }
+}
+
+/// Lays other bits into every LDA.
+fn lay(both: &mut Both, place: &Place, rng: &mut Rng) {
+    *both = Both::new(low_bits::laid(both.image().to_vec(), place, rng));
+}
+
+/// A file of 200 blocks in a partition with room for 226, and gone again; something is done to the image before each append.
+fn grow_and_destroy(both: &mut Both, place: &Place, mut before: impl FnMut(&mut Both)) {
+    let f = every_limit(both, &place.create(0xFFFF)).a;
+    for r in 0..200 {
+        before(both);
+        let answer = match r {
+            0..=2 | 62..=66 | 190..=194 => every_limit(both, &place.write(f, r, r as u8)),
+            _ => both.call(&place.write(f, r, r as u8)),
+        };
+        assert_eq!(answer.made, stores_of_an_append(r), "append of block {r}");
+        let refused = both.call(&place.write(f, r + 2, 0));
+        assert!(is_refusal(refused, 7), "{refused:?}");
+    }
+    assert_eq!(free_blocks(both, place), 226 - 1 - 200 - 2);
+    sweep::whole_file(both, place, f);
+    every_limit(both, &place.write(f, 130, 99));
+    every_limit(both, &place.destroy(f));
+    assert_eq!(free_blocks(both, place), 226);
 }
 
 /// Data, pointer block, old last block, old most negative block, FIB, new first free block, PIB.
@@ -53,9 +66,11 @@ fn the_last_block_that_a_file_can_have() {
     for drive in 0..3 {
         for length in [4_030, 4_031, 4_032, 4_033, 4_158, 4_159] {
             let place = Place { drive, n: 4_300, s: 1, e: 4_299 };
-            let mut both = Both::new(scattered(drive, place.n, place.s, place.e, &[length], 3));
-            let answer = every_limit(&mut both, &place.write(2, length, 1));
-            assert_eq!(answer.made, stores_of_an_append(length));
+            let image = scattered(drive, place.n, place.s, place.e, &[length], 3);
+            for image in low_bits::both_ways(image, &place, &mut rng(34)) {
+                let answer = every_limit(&mut Both::new(image), &place.write(2, length, 1));
+                assert_eq!(answer.made, stores_of_an_append(length));
+            }
         }
         let place = Place { drive, n: 4_300, s: 1, e: 4_299 };
         let mut both = Both::new(scattered(drive, place.n, place.s, place.e, &[4_160], 3));
@@ -68,12 +83,14 @@ fn the_last_block_that_a_file_can_have() {
     }
 }
 
-/// A partition with one file of `length` blocks and exactly `free` free ones.
-fn nearly_full(drive: u32, length: u32, free: u32) -> (Place, Both) {
+/// A partition with one file of `length` blocks and exactly `free` free ones, without reserved bits in its LDAs and with
+/// some in each.
+fn nearly_full(drive: u32, length: u32, free: u32) -> (Place, [Both; 2]) {
     let owned = 1 + length + length.saturating_sub(64).div_ceil(128);
     let place = Place { drive, n: owned + free + 2, s: 1, e: owned + free + 1 };
-    let image = shuffled(&place, &[length], &mut rng(31));
-    (place, Both::new(image))
+    let mut rng = rng(31);
+    let image = shuffled(&place, &[length], &mut rng);
+    (place, low_bits::both_ways(image, &place, &mut rng).map(Both::new))
 }
 
 #[test]
@@ -92,13 +109,15 @@ fn too_few_free_blocks_for_the_call_plus_one() {
             (0, 1, false),
             (0, 2, true),
         ] {
-            let (place, mut both) = nearly_full(drive, length, free);
-            let f = candidates(both.image(), &place)[0];
-            let answer = every_limit(&mut both, &place.write(f, length, 7));
-            assert_eq!(is_refusal(answer, 8), !fits, "block {length} with {free} free: {answer:?}");
-            let (_, mut both) = nearly_full(drive, length, free);
-            let answer = every_limit(&mut both, &place.create(0));
-            assert_eq!(is_refusal(answer, 8), free < 2, "create with {free} free: {answer:?}");
+            let (place, images) = nearly_full(drive, length, free);
+            for both in images {
+                let f = candidates(both.image(), &place)[0];
+                let told = format!("block {length} with {free} free");
+                let answer = every_limit(&mut both.clone(), &place.write(f, length, 7));
+                assert_eq!(is_refusal(answer, 8), !fits, "{told}: {answer:?}");
+                let answer = every_limit(&mut both.clone(), &place.create(0));
+                assert_eq!(is_refusal(answer, 8), free < 2, "create, {told}: {answer:?}");
+            }
         }
     }
 }
@@ -118,38 +137,40 @@ fn the_last_free_block_is_never_handed_out() {
     }
 }
 
-/// Destroys a file, and takes its first block for a new one while the old blocks still carry its serial.
-fn destroy_and_use_again(drive: u32, length: u32) {
-    let (place, mut both) = nearly_full(drive, length, 2);
-    let f = candidates(both.image(), &place)[0];
-    let stores = every_limit(&mut both, &place.destroy(f)).made;
+/// Destroys a file of `length` blocks, and takes its first block for a new one while the old blocks still carry its serial.
+fn destroy_and_use_again(both: &mut Both, place: &Place, length: u32) {
+    let f = candidates(both.image(), place)[0];
+    let stores = every_limit(both, &place.destroy(f)).made;
     let expected = 3 + u32::from(length > 64) + u32::from(length > 0);
     assert_eq!(stores, expected, "destroy of {length} blocks");
-    let all = free_blocks(&mut both, &place);
+    let all = free_blocks(both, place);
     assert_eq!(all, place.e - place.s);
     // Files are made until the old first block comes up again; then it grows beside its own stale blocks.
     let mut made = Vec::new();
     while !made.contains(&f) && made.len() as u32 + 2 < all {
-        made.push(every_limit(&mut both, &place.create(5)).a);
+        made.push(every_limit(both, &place.create(5)).a);
     }
     for &file in &made {
-        sweep::file(&mut both, &place, file);
+        sweep::file(both, place, file);
     }
     if made.contains(&f) {
-        every_limit(&mut both, &place.write(f, 0, 1));
-        every_limit(&mut both, &place.write(f, 1, 2));
-        sweep::whole_file(&mut both, &place, f);
-        every_limit(&mut both, &place.call(Name::Repair));
-        every_limit(&mut both, &place.destroy(f));
+        every_limit(both, &place.write(f, 0, 1));
+        every_limit(both, &place.write(f, 1, 2));
+        sweep::whole_file(both, place, f);
+        every_limit(both, &place.call(Name::Repair));
+        every_limit(both, &place.destroy(f));
     }
-    free_blocks(&mut both, &place);
+    free_blocks(both, place);
 }
 
 #[test]
 fn a_destroyed_file_leaves_stale_serials_and_its_block_is_used_again() {
     for drive in 0..4 {
         for length in [0, 1, 2, 64, 65, 192, 193, 200] {
-            destroy_and_use_again(drive, length);
+            let (place, images) = nearly_full(drive, length, 2);
+            images
+                .into_iter()
+                .for_each(|mut both| destroy_and_use_again(&mut both, &place, length));
         }
     }
 }
@@ -238,24 +259,4 @@ fn descriptions_are_set_and_read_back() {
         let reader = Call::new(Name::Description, 1, 4).with_file(f).with_buffer(&[0; 104]);
         assert_eq!(both.call_with(&reader, &[]).1, text);
     }
-}
-
-#[test]
-fn typed_answers() {
-    let drive = Drive::Shugart12;
-    let mut image = perq::blank(drive, 8, 1, 7).expect("a partition");
-    assert_eq!(image.len(), 8 * RECORD);
-    assert_eq!(perq::repair(&mut image, drive, 1, perq::ALL), Ok(7));
-    assert_eq!(
-        perq::create(&mut image, drive, 1, 0, perq::ALL),
-        Ok(perq::Created { file: 2, made: 3 })
-    );
-    assert_eq!(perq::write(&mut image, drive, 1, 2, 0, &content(0, 0, 0), perq::ALL), Ok(4));
-    assert_eq!(perq::describe(&mut image, drive, 1, 2, &[7; 104], perq::ALL), Ok(1));
-    assert_eq!(perq::description(&image, drive, 1, 2), Ok([7; 104]));
-    assert_eq!(perq::destroy(&mut image, drive, 1, 2, 2), Ok(2));
-    assert_eq!(perq::check(&image, drive, 1), Err(perq::Refusal::Unsound));
-    assert_eq!(perq::blank(drive, 8, 0, 7), Err(perq::Refusal::Partition));
-    assert_eq!(perq::blank(drive, 8, 1, 8), Err(perq::Refusal::Partition));
-    assert_eq!(perq::blank(Drive::Floppy, 433, 1, 7), Err(perq::Refusal::Image));
 }

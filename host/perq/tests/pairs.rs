@@ -97,7 +97,7 @@ fn every_pair_of_such_images_as_the_reference_has_it() {
 }
 
 #[test]
-fn typed_answers_of_the_other_calls() {
+fn typed_answers_of_the_other_reading_calls() {
     let image = image(1);
     let mut buffer = [1; 512];
     assert_eq!(perq::check(&image, DRIVE, 1), Ok(Summary { files: 2, owned: 5, free: 33 }));
@@ -116,4 +116,24 @@ fn typed_answers_of_the_other_calls() {
     assert_eq!(perq::whole_file(&image, DRIVE, 1, u32::MAX), Err(Refusal::NoFile));
     assert_eq!(perq::whole_file(&malformed(1), DRIVE, 1, 2), Err(Refusal::Malformed { block: 2 }));
     assert_eq!(perq::extract(&image, DRIVE, 1, 2, &mut buffer), Err(Refusal::Buffer));
+}
+
+#[test]
+fn typed_answers_of_the_changing_calls() {
+    let drive = Drive::Shugart12;
+    let mut image = perq::blank(drive, 8, 1, 7).expect("a partition");
+    assert_eq!(image.len(), 8 * RECORD);
+    assert_eq!(perq::repair(&mut image, drive, 1, perq::ALL), Ok(7));
+    assert_eq!(
+        perq::create(&mut image, drive, 1, 0, perq::ALL),
+        Ok(perq::Created { file: 2, made: 3 })
+    );
+    assert_eq!(perq::write(&mut image, drive, 1, 2, 0, &content(0, 0, 0), perq::ALL), Ok(4));
+    assert_eq!(perq::describe(&mut image, drive, 1, 2, &[7; 104], perq::ALL), Ok(1));
+    assert_eq!(perq::description(&image, drive, 1, 2), Ok([7; 104]));
+    assert_eq!(perq::destroy(&mut image, drive, 1, 2, 2), Ok(2));
+    assert_eq!(perq::check(&image, drive, 1), Err(perq::Refusal::Unsound));
+    assert_eq!(perq::blank(drive, 8, 0, 7), Err(perq::Refusal::Partition));
+    assert_eq!(perq::blank(drive, 8, 1, 8), Err(perq::Refusal::Partition));
+    assert_eq!(perq::blank(Drive::Floppy, 433, 1, 7), Err(perq::Refusal::Image));
 }

@@ -7,6 +7,8 @@ use reference::tree_sample::set_root;
 use trials::both::Both;
 use trials::call::{Call, Name};
 use trials::images::{pair, set_pair, set_word, word, Place, DATA_WORD};
+use trials::low_bits;
+use trials::settings::rng;
 use trials::tally::{is_refusal, refusals};
 
 /// A full partition: file 2 of 64 blocks, file 3 without any, one free block. File 2 is the root directory; what stands in
@@ -123,30 +125,30 @@ fn name_itself(image: &mut [u8]) {
     set_word(image, first, DATA_WORD + 3, u16::from_le_bytes([1, b'D']));
 }
 
-/// The call with these causes, on an image that has just one free block if 8 is among them.
-fn answer_under(name: Name, causes: &[Cause]) -> (Both, Call) {
+/// The call with these causes, on an image that has just one free block if 8 is among them; without reserved bits in its
+/// LDAs, and with some in each.
+fn calls_under(name: Name, causes: &[Cause]) -> [(Both, Call); 2] {
     let full = causes.contains(&Cause::Number(8));
-    let mut image = if full { full_image() } else { roomy_image() };
-    let mut call = fine(name, &image);
-    for cause in causes {
-        cause.bring_about(&mut image, &mut call);
-    }
-    (Both::new(image), call)
+    let image = if full { full_image() } else { roomy_image() };
+    low_bits::both_ways(image, &PLACE, &mut rng(60)).map(|mut image| {
+        let mut call = fine(name, &image);
+        causes.iter().for_each(|cause| cause.bring_about(&mut image, &mut call));
+        (Both::new(image), call)
+    })
 }
 
 /// The call is refused by the first of these causes.
 fn must_refuse(name: Name, causes: &[Cause]) {
     let number = causes[0].number();
-    let (mut both, call) = answer_under(name, causes);
-    let before = both.image().to_vec();
-    let (answer, buffer) = both.call_with(&call, &[]);
-    assert!(is_refusal(answer, number), "{name:?} under {causes:?}: {answer:?}");
-    assert_eq!(answer.block, if [4, 11].contains(&number) { FILE } else { 0 });
-    assert_eq!(answer.made, 0);
-    assert!(
-        both.image() == before && buffer == call.buffer,
-        "{name:?} under {causes:?} has stored"
-    );
+    for (mut both, call) in calls_under(name, causes) {
+        let before = both.image().to_vec();
+        let (answer, buffer) = both.call_with(&call, &[]);
+        assert!(is_refusal(answer, number), "{name:?} under {causes:?}: {answer:?}");
+        assert_eq!(answer.block, if [4, 11].contains(&number) { FILE } else { 0 });
+        assert_eq!(answer.made, 0);
+        let is_untouched = both.image() == before && buffer == call.buffer;
+        assert!(is_untouched, "{name:?} under {causes:?} has stored");
+    }
 }
 
 /// The calls on one image.
@@ -158,8 +160,9 @@ fn on_an_image() -> impl Iterator<Item = Name> {
 #[test]
 fn nothing_is_refused_when_all_is_well() {
     for name in on_an_image() {
-        let (mut both, call) = answer_under(name, &[]);
-        assert_ne!(both.call(&call).outcome, raw::REFUSED, "{name:?}");
+        for (mut both, call) in calls_under(name, &[]) {
+            assert_ne!(both.call(&call).outcome, raw::REFUSED, "{name:?}");
+        }
     }
 }
 
@@ -188,15 +191,13 @@ fn each_refusal_before_every_later_one() {
 #[test]
 fn only_the_file_that_is_named_is_asked_about_when_reading_it() {
     for name in [Name::Read, Name::Show, Name::Description, Name::Extract] {
-        let (mut both, call) = answer_under(name, &[]);
-        both.edit(|image| set_word(image, FILE + 1, DATA_WORD + 249, 9));
-        assert_eq!(
-            both.call(&call).outcome,
-            raw::DONE,
-            "{name:?} of a good file beside a malformed one"
-        );
-        let answer = both.call(&call.with_file(FILE + 1));
-        assert!(is_refusal(answer, 4) && answer.block == FILE + 1, "{name:?}: {answer:?}");
+        for (mut both, call) in calls_under(name, &[]) {
+            both.edit(|image| set_word(image, FILE + 1, DATA_WORD + 249, 9));
+            let answer = both.call(&call);
+            assert_eq!(answer.outcome, raw::DONE, "{name:?} of a file beside a malformed one");
+            let answer = both.call(&call.with_file(FILE + 1));
+            assert!(is_refusal(answer, 4) && answer.block == FILE + 1, "{name:?}: {answer:?}");
+        }
     }
 }
 
@@ -229,7 +230,7 @@ fn buffers_of_a_wrong_length() {
     let by_length = |name: &Name| refusals(*name).contains(&3) && !Name::DIRECTORIES.contains(name);
     for name in on_an_image().filter(by_length) {
         for length in [0, 1, 103, 105, 511, 513, 1_024, 512 * 59, 512 * 61] {
-            let (mut both, call) = answer_under(name, &[]);
+            let [(mut both, call), _] = calls_under(name, &[]);
             let answer = both.call(&call.with_buffer(&vec![1; length]));
             assert!(is_refusal(answer, 3), "{name:?} with {length} bytes: {answer:?}");
         }
@@ -243,12 +244,13 @@ fn partitions_that_are_not_good() {
     let cases = [
         ("start is another block", 118, lda(2)),
         ("start is nil", 118, 0),
+        ("start is reserved bits alone", 118, 0x80),
         ("start is a PDA", 118, reference::lbn_to_pda(PLACE.drive, 1).a),
         ("end is the start", 120, lda(1)),
         ("end is before the start", 120, lda(0)),
         ("end is the record after the last", 120, lda(70)),
         ("end is nil", 120, 0),
-        ("end has a low bit", 120, lda(68) + 1),
+        ("end is reserved bits alone", 120, 0xFF),
         ("end is a hard drive's", 120, reference::lbn_to_lda(0, 68).a),
     ];
     for (what, at, value) in cases {

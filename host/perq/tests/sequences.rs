@@ -1,5 +1,5 @@
-//! Random sequences of changing calls, every limit of each, on fresh and on scattered partitions; the whole image is
-//! compared with the reference's after every call.
+//! Random sequences of changing calls, every limit of each, on fresh and on scattered partitions, with reserved bits in
+//! every LDA at first or without; the whole image is compared with the reference's after every call.
 
 use reference::sample::{fresh, Rng};
 use reference::{DONE, REFUSED};
@@ -9,6 +9,7 @@ use trials::cuts::every_limit;
 use trials::damage::damage;
 use trials::draw::{self, candidates};
 use trials::images::{shuffled, some_lengths, Place};
+use trials::low_bits;
 use trials::settings::{cases, rng};
 use trials::tally::Tally;
 
@@ -37,7 +38,7 @@ fn start(rng: &mut Rng) -> (Place, Vec<u8>) {
         0 => fresh(place.drive, n, place.s, place.e),
         _ => shuffled(&place, &some_lengths(&place, 4, rng), rng),
     };
-    (place, image)
+    (place, low_bits::perhaps(image, &place, rng))
 }
 
 /// One step: a random call under every limit; then it is made whole, or cut and mended by a repair that may itself be

@@ -1,11 +1,13 @@
-//! Reading from sound partitions of every drive, with files of every length at which the index changes its form.
+//! Reading from sound partitions of every drive, with files of every length at which the index changes its form; each with
+//! reserved bits in every LDA and without.
 
 use perq::{raw, Drive};
 use reference::sample::scattered;
 use trials::both::Both;
-use trials::call::{Call, Name};
+use trials::call::Name;
 use trials::draw::candidates;
-use trials::images::{shuffled, Place};
+use trials::images::{set_pair, shuffled, Place, DATA_WORD};
+use trials::low_bits;
 use trials::settings::rng;
 use trials::sweep;
 
@@ -16,8 +18,14 @@ fn pointer_blocks(length: u32) -> u32 {
     length.saturating_sub(64).div_ceil(128)
 }
 
-/// Reads all of a partition that must be sound and hold files of these lengths.
+/// Reads all of a partition that must be sound and hold files of these lengths, as it is and with bits laid into its LDAs.
 fn read_all(image: Vec<u8>, place: &Place, lengths: &[u32]) {
+    for image in low_bits::both_ways(image, place, &mut rng(5)) {
+        read_each(image, place, lengths);
+    }
+}
+
+fn read_each(image: Vec<u8>, place: &Place, lengths: &[u32]) {
     let files = candidates(&image, place);
     assert_eq!(files.len(), lengths.len());
     let mut both = Both::new(image);
@@ -68,13 +76,15 @@ fn the_largest_partition_and_one_block_more() {
     let n = Drive::Shugart24.blocks();
     let place = Place { drive, n, s: 1_000, e: 1_000 + 32_766 };
     let image = scattered(drive, n, place.s, place.e, &[4_160, 4_160, 193, 0], 9);
-    let mut both = Both::new(image);
-    assert_eq!(both.call(&Call::new(Name::Check, drive, place.s)).a, 4);
-    sweep::partition(&mut both, &place, &[]);
-    let end = place.lda(place.e + 1);
-    both.edit(|image| trials::images::set_pair(image, place.s, 8 + 120, end));
-    let answer = both.call(&Call::new(Name::Check, drive, place.s));
-    assert_eq!((answer.outcome, answer.number), (raw::REFUSED, 2));
+    for image in low_bits::both_ways(image, &place, &mut rng(6)) {
+        let mut both = Both::new(image);
+        assert_eq!(both.call(&place.call(Name::Check)).a, 4);
+        sweep::partition(&mut both, &place, &[]);
+        let end = place.lda(place.e + 1);
+        both.edit(|image| set_pair(image, place.s, DATA_WORD + 120, end));
+        let answer = both.call(&place.call(Name::Check));
+        assert_eq!((answer.outcome, answer.number), (raw::REFUSED, 2));
+    }
 }
 
 #[test]

@@ -1,6 +1,7 @@
 //! Worked cases: a whole file is read, and one with a fault in it is an error, so that no case is left out; and a case that
 //! runs nothing has failed.
 
+use trials::call::{Call, Name};
 use trials::worked::{run, Side};
 use trials::worked_file::{parse, Step};
 
@@ -86,10 +87,40 @@ fn a_case_ends_where_it_says_so() {
 
 #[test]
 fn a_call_that_is_not_known_is_an_error() {
-    for name in ["chek", "lbn_to_pda", "show_pair", "perq_check", "Check"] {
+    for name in ["chek", "lba_to_lbn", "show_pair", "perq_check", "perq_lda_to_lbn", "Check"] {
         must_fail(&GOOD.replacen("call check", &format!("call {name}"), 1), 4);
     }
     must_fail(&GOOD.replacen("call check 3 1 ", "call check 3 1 0 ", 1), 4);
+}
+
+/// The conversions by their names in the files.
+const CONVERSIONS: [(&str, Name); 6] = [
+    ("lbn_to_pda", Name::LbnToPda),
+    ("pda_to_lbn", Name::PdaToLbn),
+    ("lbn_to_lda", Name::LbnToLda),
+    ("lda_to_lbn", Name::LdaToLbn),
+    ("lbn_to_fileid", Name::LbnToFileid),
+    ("fileid_to_lbn", Name::FileidToLbn),
+];
+
+#[test]
+fn a_conversion_has_a_drive_and_a_number() {
+    for (word, name) in CONVERSIONS {
+        let cases =
+            parse(&GOOD.replacen("call check 3 1 ", &format!("call {word} 2 4294967295 "), 1));
+        let cases = cases.expect("a conversion is a call");
+        let Step::Call(expected) = &cases[0].steps[1] else { panic!("the call of line 4") };
+        assert_eq!(expected.call, Call::conversion(name, 2, u32::MAX));
+        for arguments in ["", "2", "2 1 0", "2 x", "2 4294967296", "hex:00 1", "2 hex:00"] {
+            must_fail(
+                &GOOD.replacen("call check 3 1 ", &format!("call {word} {arguments} "), 1),
+                4,
+            );
+        }
+        let summed =
+            format!("call {word} 2 1 -> 0 0 0 0 0 0 0 image 0123abcd buffer 89abcdef\nend\n");
+        must_fail(&GOOD.replace("end\ncase 2", &format!("{summed}case 2")), 11);
+    }
 }
 
 #[test]
@@ -121,4 +152,16 @@ fn a_case_passes_only_with_a_call_and_as_worked_out() {
     assert!(complaints.starts_with("case 2: line 2: Check answers "), "{complaints}");
     let another = (0, 1, "case 2: line 2: Check leaves another image\n".to_string());
     assert_eq!(ran(&call.replace("2e7a33f6", "2e7a33f7")), another);
+}
+
+#[test]
+fn a_conversion_is_made_beside_the_image_of_its_case() {
+    // M5: on drive 2, LBN 69,551 has the LDA 127400 140417 O; the record of zeros stays.
+    let call = "call lda_to_lbn 2 3239030528 -> 0 0 0 0 69551 0 0 image 2e7a33f6\n";
+    assert_eq!(ran(call), (1, 0, String::new()));
+    assert_eq!(ran(&call.replace("image 2e7a33f6", "image 2e7a33f7")).1, 1);
+    assert_eq!(ran(&call.replace("69551", "69550")).1, 1);
+    assert_eq!(ran("call lbn_to_lda 2 69551 -> 0 0 0 0 3239030528 0 0 image 2e7a33f6\n").0, 1);
+    assert_eq!(ran("call lda_to_lbn 2 0 -> 2 10 0 0 0 0 0 image 2e7a33f6\n").0, 1);
+    assert_eq!(ran("call fileid_to_lbn 4 0 -> 2 1 0 0 0 0 0 image 2e7a33f6\n").0, 1);
 }

@@ -54,6 +54,17 @@ def sample(drive, n=40, blocks=3):
     return image
 
 
+def with_bits(image, blocks=3):
+    """The sample of so many blocks with reserved bits in every LDA, others in each: in the partition's own block, and in
+    the index and the last addresses of its file."""
+    image = bytearray(image)
+    spots = [(1, word) for word in (8, 10, 126, 128)]
+    spots += [(2, 8 + 52 + 2 * r) for r in range(blocks)] + [(2, 8 + 251), (2, 8 + 254)]
+    for bits, (block, word) in enumerate(spots, 1):
+        image[RECORD * block + 2 * word] = 17 * bits % 256
+    return image
+
+
 def malformed(drive):
     """The sample with a file block that says it uses 99 blocks."""
     image = sample(drive)

@@ -33,6 +33,18 @@ class Conversions(unittest.TestCase):
             self.assertEqual(tapermoss.pda_to_lbn(Drive.FLOPPY, tapermoss.lbn_to_pda(Drive.FLOPPY, lbn)), lbn)
             self.assertEqual(tapermoss.lda_to_lbn(Drive.FLOPPY, tapermoss.lbn_to_lda(Drive.FLOPPY, lbn)), lbn)
 
+    def test_an_lda_names_its_block_whatever_its_reserved_bits_are(self):
+        for drive in Drive:
+            for lbn in (0, 1, 210, drive.blocks - 1):
+                clean = tapermoss.lbn_to_lda(drive, lbn)
+                self.assertEqual(clean % 256, 0)
+                for bits in range(256):
+                    self.assertEqual(tapermoss.lda_to_lbn(drive, clean + bits), lbn)
+            for bits in range(256):
+                with self.assertRaises(Refused) as caught:
+                    tapermoss.lda_to_lbn(drive, bits)
+                self.assertEqual(caught.exception.number, 10)
+
     def test_what_does_not_convert_is_refused_by_10(self):
         calls = [
             lambda: tapermoss.lbn_to_fileid(Drive.MICROPOLIS35, 57344),

@@ -6,10 +6,16 @@ from typing import NamedTuple
 import tapermoss
 
 FOLDER = os.path.join(os.path.dirname(__file__), '..', '..', '..', 'tests', 'worked')
-BASE, REQUEST_1 = (os.path.join(FOLDER, name) for name in ('base.txt', 'request-1.txt'))
-#: The calls whose buffer's sum stands in a case, and those that change the image.
+REQUEST_1 = os.path.join(FOLDER, 'request-1.txt')
+#: The calls whose buffer's sum stands in a case, those that change the image, and those that take none.
 SUMMED = {'read', 'description', 'tree'}
 CHANGES = {'create', 'write', 'describe', 'destroy', 'repair'}
+CONVERSIONS = {'lbn_to_pda', 'pda_to_lbn', 'lbn_to_lda', 'lda_to_lbn', 'lbn_to_fileid', 'fileid_to_lbn'}
+
+
+def files():
+    """Every file of cases that is there."""
+    return sorted(os.path.join(FOLDER, name) for name in os.listdir(FOLDER) if name.endswith('.txt'))
 
 
 class Put(NamedTuple):
@@ -29,6 +35,11 @@ class Call(NamedTuple):
     image_sum: int
     buffer_sum: int
     rows: list
+
+    def made(self, image):
+        """The answer of the library."""
+        lent = () if self.name in CONVERSIONS else (image,)
+        return tapermoss.call(self.name, *lent, *self.arguments)
 
 
 def cases(path):

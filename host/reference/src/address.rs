@@ -85,17 +85,28 @@ impl Drive {
         }
     }
 
-    /// The LDA of an LBN of the drive: the LBN's 19 bits stand at bits 8-26.
+    /// The clean LDA of an LBN of the drive: the LBN's 19 bits stand at bits 8-26, and bits 0-7, which
+    /// are reserved, are zero.
     pub fn lda(self, lbn: u32) -> u32 {
         self.lda_mark() | lbn << 8
     }
 
-    /// The LBN whose LDA this is, if there is one.
+    /// The LBN that an LDA names, if it is one. The reserved bits are not looked at; without the mark
+    /// they make no address, so that nil, and what has only such bits, names nothing.
     pub fn lbn_of_lda(self, lda: u32) -> Option<u32> {
-        if lda & 0xFF != 0 || lda & (0b11111 << 27) != self.lda_mark() {
+        if lda & (0b11111 << 27) != self.lda_mark() {
             return None;
         }
         self.has(lda >> 8 & 0x7_FFFF)
+    }
+
+    /// What is to stand where `old` stands, so that it names an LBN of the drive: `old` as it is, with
+    /// its reserved bits, if it names the LBN already, and else the clean LDA.
+    pub fn kept_or_clean_lda(self, old: u32, lbn: u32) -> u32 {
+        match self.lbn_of_lda(old) {
+            Some(named) if named == lbn => old,
+            _ => self.lda(lbn),
+        }
     }
 
     /// The FileID of an LBN, if both exist.
@@ -134,14 +145,8 @@ fn shugart_lbn(pda: u32, tracks: u32) -> Option<u32> {
 /// Conversions answer 1 for the drive, otherwise 10.
 fn convert(drive: u32, by: impl Fn(Drive) -> Option<u32>) -> Answer {
     let converted = || {
-        let drive = Drive::numbered(drive).ok_or(Refusal {
-            number: 1,
-            block: 0,
-        })?;
-        let number = by(drive).ok_or(Refusal {
-            number: 10,
-            block: 0,
-        })?;
+        let drive = Drive::numbered(drive).ok_or(Refusal { number: 1, block: 0 })?;
+        let number = by(drive).ok_or(Refusal { number: 10, block: 0 })?;
         Ok(Answer::done(number, 0, 0))
     };
     settle(converted())

@@ -23,7 +23,7 @@ pub fn store_allocation(partition: &Partition, free: &[u32], stores: &mut Vec<(u
     record.set_filler(first);
     stores.push((first, record));
     let mut pib = Record::of(image, s);
-    pib.set_data_pair(FREE_HEAD, image.drive.lda(first));
+    pib.set_lda(FREE_HEAD, first);
     pib.set_data_pair(NUMBER_FREE, partition.number_free() - taken);
     stores.push((s, pib));
 }

@@ -22,20 +22,11 @@ pub struct Answer {
 
 impl Answer {
     pub fn done(a: u32, b: u32, c: u32) -> Answer {
-        Answer {
-            outcome: DONE,
-            a,
-            b,
-            c,
-            ..Answer::default()
-        }
+        Answer { outcome: DONE, a, b, c, ..Answer::default() }
     }
 
     pub fn absent() -> Answer {
-        Answer {
-            outcome: ABSENT,
-            ..Answer::default()
-        }
+        Answer { outcome: ABSENT, ..Answer::default() }
     }
 }
 
@@ -70,12 +61,7 @@ impl Refusal {
 impl From<Refusal> for Answer {
     fn from(refusal: Refusal) -> Answer {
         let Refusal { number, block } = refusal;
-        Answer {
-            outcome: REFUSED,
-            number,
-            block,
-            ..Answer::default()
-        }
+        Answer { outcome: REFUSED, number, block, ..Answer::default() }
     }
 }
 

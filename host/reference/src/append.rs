@@ -25,21 +25,11 @@ struct Append<'a> {
 /// The plan of an append to a file of a sound partition; number 8 is judged here.
 pub fn append(partition: &Partition, old: &File, buffer: &[u8]) -> Result<Plan, Refusal> {
     let r = old.length();
-    let new = File {
-        f: old.f,
-        last: r as i32,
-    };
+    let new = File { f: old.f, last: r as i32 };
     let needs = 1 + new.pointers() - old.pointers();
     let free = first_free(partition, needs)?;
     let pointer = (needs == 2).then(|| free[1]);
-    let call = Append {
-        partition,
-        old,
-        new,
-        r,
-        data: free[0],
-        pointer,
-    };
+    let call = Append { partition, old, new, r, data: free[0], pointer };
     let mut stores = vec![(call.data, call.data_record(buffer))];
     stores.extend(call.pointer_store());
     stores.extend(call.old_last_store());
@@ -56,10 +46,6 @@ impl Append<'_> {
 
     fn pda(&self, b: u32) -> u32 {
         self.partition.image.drive.pda(b)
-    }
-
-    fn lda(&self, b: u32) -> u32 {
-        self.partition.image.drive.lda(b)
     }
 
     /// The new data block, behind the old last block (the FIB when r = 0).
@@ -90,7 +76,7 @@ impl Append<'_> {
             record.set_previous(NIL);
             record.clear_data();
         }
-        record.set_data_pair(entry_word(entry), self.lda(self.data));
+        record.set_lda(entry_word(entry), self.data);
         Some((b, record))
     }
 
@@ -114,25 +100,26 @@ impl Append<'_> {
         Some((b, record))
     }
 
+    /// The FIB. Without a new pointer block its last negative address stays, reserved bits too.
     fn fib(&self) -> Record {
         let mut fib = self.record(self.old.f);
         if self.r == 0 {
             fib.set_next(self.pda(self.data));
         }
         if let Place::Direct(entry) = place(self.r) {
-            fib.set_data_pair(direct_word(entry), self.lda(self.data));
+            fib.set_lda(direct_word(entry), self.data);
         }
         if let Some(pointer) = self.pointer {
             if self.old.pointers() == 0 {
                 fib.set_previous(self.pda(pointer));
             }
-            fib.set_data_pair(indirect_word(self.old.pointers()), self.lda(pointer));
+            fib.set_lda(indirect_word(self.old.pointers()), pointer);
             fib.set_data_word(LAST_NEGATIVE, self.new.last_negative() as u16);
-            fib.set_data_pair(LAST_NEGATIVE_ADDRESS, self.lda(pointer));
+            fib.set_lda(LAST_NEGATIVE_ADDRESS, pointer);
         }
         fib.set_data_word(BLOCKS_IN_USE, self.new.blocks_in_use() as u16);
         fib.set_data_word(LAST_BLOCK, self.r as u16);
-        fib.set_data_pair(LAST_ADDRESS, self.lda(self.data));
+        fib.set_lda(LAST_ADDRESS, self.data);
         fib
     }
 }

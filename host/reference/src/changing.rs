@@ -37,9 +37,8 @@ pub fn plan_create(image: &[u8], drive: u32, s: u32, kind: u16) -> Plan {
 
 /// The FIB of a file with L = -1.
 fn empty_file(partition: &Partition, f: u32, kind: u16) -> Record {
-    let drive = partition.image.drive;
     let mut fib = Record::of(&partition.image, f);
-    fib.set_serial(drive.pda(f));
+    fib.set_serial(partition.image.drive.pda(f));
     fib.set_relative(FIB);
     fib.set_next(NIL);
     fib.set_previous(NIL);
@@ -47,9 +46,9 @@ fn empty_file(partition: &Partition, f: u32, kind: u16) -> Record {
     fib.set_data_word(KIND, kind);
     fib.set_data_word(BLOCKS_IN_USE, 1);
     fib.set_data_word(LAST_BLOCK, -1_i16 as u16);
-    fib.set_data_pair(LAST_ADDRESS, drive.lda(f));
+    fib.set_lda(LAST_ADDRESS, f);
     fib.set_data_word(LAST_NEGATIVE, FIB as u16);
-    fib.set_data_pair(LAST_NEGATIVE_ADDRESS, drive.lda(f));
+    fib.set_lda(LAST_NEGATIVE_ADDRESS, f);
     fib
 }
 
@@ -85,16 +84,14 @@ pub fn plan_destroy(image: &[u8], drive: u32, s: u32, f: u32) -> Plan {
         let partition = judged(image, drive, s, true)?;
         let file = file_at(&partition, f)?;
         let mut stores = destroyed(&partition, &file);
-        let tail = partition
-            .free_tail()
-            .expect("a sound partition has a free tail");
+        let tail = partition.free_tail().expect("a sound partition has a free tail");
         let most_negative = file.most_negative_block(&partition);
         let mut record = Record::of(&partition.image, tail);
         record.set_next(partition.image.drive.pda(most_negative));
         stores.push((tail, record));
         let last = file.last_data_block(&partition);
         let mut pib = Record::of(&partition.image, s);
-        pib.set_data_pair(FREE_TAIL, partition.image.drive.lda(last));
+        pib.set_lda(FREE_TAIL, last);
         pib.set_data_pair(NUMBER_FREE, partition.number_free() + file.blocks_in_use());
         stores.push((s, pib));
         Ok(Plan::done(stores, Some(f), 0))
@@ -105,12 +102,8 @@ pub fn plan_destroy(image: &[u8], drive: u32, s: u32, f: u32) -> Plan {
 /// The file's own stores in destroy: the FIB, the most negative block if P >= 1, the last if L >= 0.
 fn destroyed(partition: &Partition, file: &File) -> Vec<(u32, Record)> {
     let image = &partition.image;
-    let head = partition
-        .free_head()
-        .expect("a sound partition has a free head");
-    let tail = partition
-        .free_tail()
-        .expect("a sound partition has a free tail");
+    let head = partition.free_head().expect("a sound partition has a free head");
+    let tail = partition.free_tail().expect("a sound partition has a free tail");
     let most_negative = file.most_negative_block(partition);
     let last = file.last_data_block(partition);
     let mut blocks = vec![file.f];

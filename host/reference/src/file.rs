@@ -38,10 +38,7 @@ pub enum Place {
 pub fn place(r: u32) -> Place {
     match r.checked_sub(DIRECTS) {
         None => Place::Direct(r),
-        Some(r) => Place::Indirect {
-            indirect: r / ENTRIES,
-            entry: r % ENTRIES,
-        },
+        Some(r) => Place::Indirect { indirect: r / ENTRIES, entry: r % ENTRIES },
     }
 }
 
@@ -101,9 +98,7 @@ impl File {
     /// The block named by indirect entry `indirect` < P.
     pub fn pointer_block(&self, partition: &Partition, indirect: u32) -> u32 {
         let lda = partition.image.data_pair(self.f, indirect_word(indirect));
-        partition
-            .block_of_lda(lda)
-            .expect("a file's indirect entries are LDAs")
+        partition.block_of_lda(lda).expect("a file's indirect entries are LDAs")
     }
 
     /// The most negative block, the FIB when P = 0.
@@ -128,9 +123,7 @@ impl File {
     /// The block that is relative block r <= L.
     pub fn data_block(&self, partition: &Partition, r: u32) -> u32 {
         let lda = self.entry(partition, r);
-        partition
-            .block_of_lda(lda)
-            .expect("a file's entries are LDAs")
+        partition.block_of_lda(lda).expect("a file's entries are LDAs")
     }
 
     /// Block L, the FIB when L = -1.

@@ -29,6 +29,12 @@ pub const PARTITION_END: usize = 120;
 /// The largest size m of a good partition.
 const LARGEST: u32 = 32_767;
 
+/// The two words of a record from `word` on, as one number.
+pub fn pair_at(record: &[u8], word: usize) -> u32 {
+    let bytes = &record[2 * word..2 * word + 4];
+    u32::from_le_bytes([bytes[0], bytes[1], bytes[2], bytes[3]])
+}
+
 #[derive(Clone, Copy)]
 pub struct Image<'a> {
     bytes: &'a [u8],
@@ -40,18 +46,11 @@ pub struct Image<'a> {
 impl<'a> Image<'a> {
     /// Number 1 is judged here.
     pub fn lent(bytes: &'a [u8], drive: u32) -> Result<Image<'a>, Refusal> {
-        let drive = Drive::numbered(drive).ok_or(Refusal {
-            number: 1,
-            block: 0,
-        })?;
+        let drive = Drive::numbered(drive).ok_or(Refusal { number: 1, block: 0 })?;
         let records = bytes.len() / RECORD;
         let whole = !bytes.is_empty() && bytes.len() % RECORD == 0;
         Refusal::unless(whole && records <= drive.blocks() as usize, 1)?;
-        Ok(Image {
-            bytes,
-            drive,
-            n: records as u32,
-        })
+        Ok(Image { bytes, drive, n: records as u32 })
     }
 
     /// The whole record of block b.
@@ -70,9 +69,7 @@ impl<'a> Image<'a> {
     }
 
     fn pair(&self, b: u32, word: usize) -> u32 {
-        let at = RECORD * b as usize + 2 * word;
-        let bytes = &self.bytes[at..at + 4];
-        u32::from_le_bytes([bytes[0], bytes[1], bytes[2], bytes[3]])
+        pair_at(self.record(b), word)
     }
 
     pub fn serial(&self, b: u32) -> u32 {
@@ -124,10 +121,7 @@ impl<'a> Partition<'a> {
     /// The good partition named by s; numbers 1 and 2 are judged here.
     pub fn named(bytes: &'a [u8], drive: u32, s: u32) -> Result<Partition<'a>, Refusal> {
         let image = Image::lent(bytes, drive)?;
-        let none = Refusal {
-            number: 2,
-            block: 0,
-        };
+        let none = Refusal { number: 2, block: 0 };
         if s < 1 || s >= image.n {
             return Err(none);
         }
@@ -141,7 +135,7 @@ impl<'a> Partition<'a> {
         }
     }
 
-    /// The block of s+1..e whose LDA this is, if there is one.
+    /// The block of s+1..e that this LDA names, if it is one.
     pub fn block_of_lda(&self, lda: u32) -> Option<u32> {
         self.image.drive.lbn_of_lda(lda).filter(|&b| self.holds(b))
     }

@@ -20,27 +20,14 @@ impl Plan {
     pub fn done(stores: Vec<(u32, Record)>, deciding: Option<u32>, a: u32) -> Plan {
         let place = |block| stores.iter().position(|&(b, _)| b == block);
         let deciding = deciding.and_then(place).unwrap_or(stores.len());
-        let answer = Answer {
-            made: stores.len() as u32,
-            ..Answer::done(a, 0, 0)
-        };
-        let stores = stores
-            .into_iter()
-            .map(|(b, record)| (b, record.bytes()))
-            .collect();
-        Plan {
-            answer,
-            stores,
-            deciding,
-        }
+        let answer = Answer { made: stores.len() as u32, ..Answer::done(a, 0, 0) };
+        let stores = stores.into_iter().map(|(b, record)| (b, record.bytes())).collect();
+        Plan { answer, stores, deciding }
     }
 
     pub fn settle(result: Result<Plan, Refusal>) -> Plan {
-        let refused = |refusal| Plan {
-            answer: Answer::from(refusal),
-            stores: Vec::new(),
-            deciding: 0,
-        };
+        let refused =
+            |refusal| Plan { answer: Answer::from(refusal), stores: Vec::new(), deciding: 0 };
         result.unwrap_or_else(refused)
     }
 
@@ -50,9 +37,6 @@ impl Plan {
         for (b, record) in &self.stores[..made] {
             image[RECORD * *b as usize..][..RECORD].copy_from_slice(record);
         }
-        Answer {
-            made: made as u32,
-            ..self.answer
-        }
+        Answer { made: made as u32, ..self.answer }
     }
 }

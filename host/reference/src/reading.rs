@@ -50,9 +50,7 @@ pub fn show(image: &[u8], drive: u32, s: u32, f: u32, r: u32) -> Answer {
         let partition = Partition::named(image, drive, s)?;
         let offset = |b| (RECORD * b as usize + HEADER) as u32;
         let found = find(&partition, f, r)?;
-        Ok(found.map_or(Answer::absent(), |b| {
-            Answer::done(offset(b), DATA as u32, 0)
-        }))
+        Ok(found.map_or(Answer::absent(), |b| Answer::done(offset(b), DATA as u32, 0)))
     };
     settle(shown())
 }
@@ -63,10 +61,7 @@ pub fn show_pair(original: &[u8], repaired: &[u8], drive: u32, s: u32, f: u32, r
     if answer.outcome != REFUSED {
         return Answer { c: 1, ..answer };
     }
-    Answer {
-        c: 2,
-        ..show(original, drive, s, f, r)
-    }
+    Answer { c: 2, ..show(original, drive, s, f, r) }
 }
 
 /// Copies the 104 bytes of the description out.

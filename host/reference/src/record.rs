@@ -1,10 +1,12 @@
 //! One whole record being planned: a copy of the unchanged one with words changed.
 
-use crate::address::NIL;
-use crate::image::{Image, DATA, FILLER, HEADER, NEXT, PREVIOUS, RECORD, RELATIVE, SERIAL};
+use crate::address::{Drive, NIL};
+use crate::image::{pair_at, Image};
+use crate::image::{DATA, FILLER, HEADER, NEXT, PREVIOUS, RECORD, RELATIVE, SERIAL};
 
 #[derive(Clone, Copy)]
 pub struct Record {
+    drive: Drive,
     bytes: [u8; RECORD],
 }
 
@@ -13,7 +15,7 @@ impl Record {
     pub fn of(image: &Image, b: u32) -> Record {
         let mut bytes = [0; RECORD];
         bytes.copy_from_slice(image.record(b));
-        Record { bytes }
+        Record { drive: image.drive, bytes }
     }
 
     pub fn bytes(self) -> [u8; RECORD] {
@@ -55,6 +57,13 @@ impl Record {
 
     pub fn set_data_pair(&mut self, word: usize, value: u32) {
         self.set_pair(HEADER / 2 + word, value);
+    }
+
+    /// The LDA at this data word comes to name block b. Calls write every LDA by this, so that one that
+    /// names b already is kept with its reserved bits. In cleared data there is none to keep.
+    pub fn set_lda(&mut self, word: usize, b: u32) {
+        let old = pair_at(&self.bytes, HEADER / 2 + word);
+        self.set_data_pair(word, self.drive.kept_or_clean_lda(old, b));
     }
 
     /// The data from its beginning on becomes these bytes, at most 512.

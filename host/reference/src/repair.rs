@@ -22,18 +22,10 @@ pub fn plan_repair(image: &[u8], drive: u32, s: u32) -> Plan {
     let planned = || {
         let partition = Partition::named(image, drive, s)?;
         let survey = survey(&partition)?;
-        let free: Vec<u32> = partition
-            .blocks()
-            .filter(|&b| !survey.owns(&partition, b))
-            .collect();
+        let free: Vec<u32> = partition.blocks().filter(|&b| !survey.owns(&partition, b)).collect();
         Refusal::unless(!free.is_empty(), 9)?;
         let relinked = relink(&partition, &survey, &free);
-        let store = |b| {
-            (
-                b,
-                repaired(&partition, b, relinked[(b - s) as usize], &survey, free[0]),
-            )
-        };
+        let store = |b| (b, repaired(&partition, b, relinked[(b - s) as usize], &survey, free[0]));
         let mut stores: Vec<_> = partition.blocks().map(store).collect();
         stores.push((s, repaired_pib(&partition, &free)));
         Ok(Plan::done(stores, None, 0))
@@ -43,11 +35,7 @@ pub fn plan_repair(image: &[u8], drive: u32, s: u32) -> Plan {
 
 /// The new links of every block, at place b-s.
 fn relink(partition: &Partition, survey: &Survey, free: &[u32]) -> Vec<Relinked> {
-    let untouched = Relinked {
-        next: NIL,
-        previous: NIL,
-        used_entries: ENTRIES,
-    };
+    let untouched = Relinked { next: NIL, previous: NIL, used_entries: ENTRIES };
     let mut relinked = vec![untouched; survey.owned.len()];
     link(partition, free, &mut relinked);
     for file in &survey.files {
@@ -88,10 +76,9 @@ fn repaired(
 }
 
 fn repaired_pib(partition: &Partition, free: &[u32]) -> Record {
-    let drive = partition.image.drive;
     let mut pib = Record::of(&partition.image, partition.s);
-    pib.set_data_pair(FREE_HEAD, drive.lda(free[0]));
-    pib.set_data_pair(FREE_TAIL, drive.lda(free[free.len() - 1]));
+    pib.set_lda(FREE_HEAD, free[0]);
+    pib.set_lda(FREE_TAIL, free[free.len() - 1]);
     pib.set_data_pair(NUMBER_FREE, free.len() as u32);
     pib
 }

@@ -54,9 +54,7 @@ pub fn fresh(drive: u32, n: u32, s: u32, e: u32) -> Vec<u8> {
 /// `content`. It is what create and write make of a fresh partition. At least one block must remain.
 pub fn scattered(drive: u32, n: u32, s: u32, e: u32, lengths: &[u32], seed: u64) -> Vec<u8> {
     let mut builder = Builder::new(drive, n, s, e);
-    let mut files: Vec<Growing> = (0..lengths.len())
-        .map(|i| builder.create(i as u16))
-        .collect();
+    let mut files: Vec<Growing> = (0..lengths.len()).map(|i| builder.create(i as u16)).collect();
     for i in growth(lengths, seed) {
         let data = content(seed, i, files[i].length);
         builder.append(&mut files[i], &data);
@@ -120,13 +118,7 @@ impl Builder {
             "a good partition"
         );
         let image = vec![0; RECORD * n as usize];
-        let mut builder = Builder {
-            image,
-            drive,
-            s,
-            e,
-            free: s + 1,
-        };
+        let mut builder = Builder { image, drive, s, e, free: s + 1 };
         builder.set_data_pair(s, PARTITION_START, drive.lda(s));
         builder.set_data_pair(s, PARTITION_END, drive.lda(e));
         builder
@@ -170,12 +162,7 @@ impl Builder {
         let f = self.free;
         self.take(f, FIB, f);
         self.set_data_word(f, KIND, i32::from(kind));
-        Growing {
-            f,
-            length: 0,
-            last: f,
-            most_negative: f,
-        }
+        Growing { f, length: 0, last: f, most_negative: f }
     }
 
     fn append(&mut self, file: &mut Growing, data: &[u8]) {
@@ -208,10 +195,7 @@ impl Builder {
 
     /// Writes the words of the FIB that follow from the index.
     fn close(&mut self, growing: &Growing) {
-        let file = File {
-            f: growing.f,
-            last: growing.length as i32 - 1,
-        };
+        let file = File { f: growing.f, last: growing.length as i32 - 1 };
         self.set_data_word(file.f, BLOCKS_IN_USE, file.blocks_in_use() as i32);
         self.set_data_word(file.f, LAST_BLOCK, file.last);
         self.set_lda(file.f, LAST_ADDRESS, growing.last);

@@ -31,28 +31,19 @@ struct Chain<'a> {
 
 impl<'a> Chain<'a> {
     fn new(image: Image<'a>) -> Chain<'a> {
-        Chain {
-            image,
-            end: None,
-            linked: true,
-        }
+        Chain { image, end: None, linked: true }
     }
 
     fn then(&mut self, b: u32) {
         let image = &self.image;
-        let forward = self
-            .end
-            .is_none_or(|end| image.names(image.next(end), Some(b)));
+        let forward = self.end.is_none_or(|end| image.names(image.next(end), Some(b)));
         let backward = image.names(image.previous(b), self.end);
         self.linked &= forward && backward;
         self.end = Some(b);
     }
 
     fn ends(&self) -> bool {
-        self.linked
-            && self
-                .end
-                .is_none_or(|end| self.image.names(self.image.next(end), None))
+        self.linked && self.end.is_none_or(|end| self.image.names(self.image.next(end), None))
     }
 }
 
@@ -74,13 +65,7 @@ pub fn survey(partition: &Partition) -> Result<Survey, Refusal> {
         files.push(file);
     }
     let unowned_blocks = partition.e - partition.s - owned_blocks;
-    Ok(Survey {
-        files,
-        owned,
-        owned_blocks,
-        unowned_blocks,
-        linked,
-    })
+    Ok(Survey { files, owned, owned_blocks, unowned_blocks, linked })
 }
 
 /// Whether the unused entries of the file's last pointer block are nil.
@@ -118,10 +103,7 @@ fn free_chain_good(partition: &Partition, survey: &Survey) -> bool {
 pub fn sound(partition: &Partition) -> Result<Survey, Refusal> {
     let survey = survey(partition)?;
     let sound = survey.linked
-        && survey
-            .files
-            .iter()
-            .all(|file| unused_entries_nil(partition, file))
+        && survey.files.iter().all(|file| unused_entries_nil(partition, file))
         && free_chain_good(partition, &survey);
     Refusal::unless(sound, 5)?;
     Ok(survey)
@@ -132,11 +114,7 @@ pub fn check(image: &[u8], drive: u32, s: u32) -> Answer {
     let checked = || {
         let partition = Partition::named(image, drive, s)?;
         let survey = sound(&partition)?;
-        Ok(Answer::done(
-            survey.files.len() as u32,
-            survey.owned_blocks,
-            survey.unowned_blocks,
-        ))
+        Ok(Answer::done(survey.files.len() as u32, survey.owned_blocks, survey.unowned_blocks))
     };
     settle(checked())
 }

@@ -50,7 +50,7 @@ pub const BEHIND: u8 = b'?';
 pub enum Names {
     /// The LDA of this node, which may be the root or the line's own directory.
     Node(usize),
-    /// The same with bit 0 of the low word set, so that it is no LDA.
+    /// The same with bit 15 of the high word clear, so that it is no LDA.
     Smudged(usize),
     /// The LDA of block s+k, whatever that is. Block e is free.
     Block(u32),
@@ -143,7 +143,7 @@ impl Tree {
         for (line, (r, place)) in self.nodes[i].lines.iter().zip(self.places(i)) {
             let lda = match line.names {
                 Names::Node(i) => drive.lda(s + 1 + i as u32),
-                Names::Smudged(i) => drive.lda(s + 1 + i as u32) | 1,
+                Names::Smudged(i) => drive.lda(s + 1 + i as u32) & !(1 << 31),
                 Names::Block(k) => drive.lda(s + k),
                 Names::Words(words) => words,
             };

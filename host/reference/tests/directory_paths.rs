@@ -72,7 +72,8 @@ fn the_root_is_not_asked_whether_it_is_a_directory() {
 #[test]
 fn what_dangles() {
     // The PIB, a data block, a free block, a block behind the partition, and behind the image; nil;
-    // LDAs with a low bit, of a hard drive, and of LBN 2^18 + 6; a PDA and a FileID.
+    // what has only reserved bits; LDAs with bit 15 clear, of a hard drive, and of LBN 2^18 + 6; a PDA
+    // and a FileID.
     let named = [
         Names::Block(0),
         Names::Block(3),
@@ -80,6 +81,7 @@ fn what_dangles() {
         Names::Block(417),
         Names::Block(428),
         Names::Words(0),
+        Names::Words(7),
         Names::Smudged(1),
         Names::Words(0xC000_0600),
         Names::Words(0xE400_0600),
@@ -133,9 +135,10 @@ fn circle() -> Vec<u8> {
 fn a_root_that_is_no_file() {
     let image = circle();
     let lda = |lbn| lbn_to_lda(DRIVE, lbn).a;
-    // Nil, the PIB, a data block, free blocks, outside, a low bit, a hard drive's LDA, a PDA.
+    // Nil, only reserved bits, the PIB, a data block, free blocks, an LDA with bit 15 clear, a hard
+    // drive's, a PDA; outside.
     let outside = [lda(3), lda(421), lda(431), 0xE001_B000];
-    let inside = [0, lda(4), lda(6), lda(7), lda(420), lda(5) | 1, 0xC000_0500, 0x0005_0017];
+    let inside = [0, 1, lda(4), lda(6), lda(7), lda(420), 0x6000_0500, 0xC000_0500, 0x0005_0017];
     for words in inside.into_iter().chain(outside) {
         let mut image = image.clone();
         set_root(&mut image, S, words);

@@ -13,13 +13,7 @@ fn words(low: u32, high: u32) -> u32 {
 #[test]
 fn m1_to_m6_addresses() {
     let value = |answer: Answer| {
-        assert_eq!(
-            answer,
-            Answer {
-                a: answer.a,
-                ..Answer::default()
-            }
-        );
+        assert_eq!(answer, Answer { a: answer.a, ..Answer::default() });
         answer.a
     };
     let pdas = [
@@ -36,10 +30,7 @@ fn m1_to_m6_addresses() {
         assert_eq!(value(lbn_to_pda(drive, lbn)), pda);
         assert_eq!(value(pda_to_lbn(drive, pda)), lbn);
     }
-    let ldas = [
-        (1, 210, words(0o151000, 0o140000)),
-        (2, 69_551, words(0o127400, 0o140417)),
-    ];
+    let ldas = [(1, 210, words(0o151000, 0o140000)), (2, 69_551, words(0o127400, 0o140417))];
     for (drive, lbn, lda) in ldas {
         assert_eq!(value(lbn_to_lda(drive, lbn)), lda);
         assert_eq!(value(lda_to_lbn(drive, lda)), lbn);
@@ -50,11 +41,7 @@ fn m1_to_m6_addresses() {
 fn m7_m8_fileids() {
     assert_eq!(lbn_to_fileid(3, 431).a, 57_775);
     assert_eq!(fileid_to_lbn(3, 57_775).a, 431);
-    let ten = Answer {
-        outcome: REFUSED,
-        number: 10,
-        ..Answer::default()
-    };
+    let ten = Answer { outcome: REFUSED, number: 10, ..Answer::default() };
     assert_eq!(lbn_to_fileid(2, 57_344), ten);
     assert_eq!(fileid_to_lbn(2, 57_344), ten);
     assert_eq!(lbn_to_fileid(2, 57_343).a, 57_343);
@@ -64,23 +51,13 @@ fn m7_m8_fileids() {
 fn m9_to_m11_places() {
     let rows = [(191, -4, 127), (192, -5, 0), (4_159, -35, 127)];
     for (r, pointer, entry) in rows {
-        let Place::Indirect {
-            indirect,
-            entry: found,
-        } = place(r)
-        else {
+        let Place::Indirect { indirect, entry: found } = place(r) else {
             panic!("{r} is not direct");
         };
         assert_eq!((pointer_relative(indirect), found), (pointer, entry));
     }
     assert_eq!(place(63), Place::Direct(63));
-    assert_eq!(
-        place(64),
-        Place::Indirect {
-            indirect: 0,
-            entry: 0
-        }
-    );
+    assert_eq!(place(64), Place::Indirect { indirect: 0, entry: 0 });
 }
 
 fn free(image: &[u8]) -> Vec<u32> {
@@ -101,10 +78,7 @@ fn before_second_append() -> (Vec<u8>, Plan) {
     assert_eq!(free(&image), [2, 3, 4, 5, 6, 7]);
 
     let plan = plan_create(&image, 0, 1, 9);
-    assert_eq!(
-        (plan.answer.a, blocks(&plan), plan.deciding),
-        (2, vec![2, 3, 1], 0)
-    );
+    assert_eq!((plan.answer.a, blocks(&plan), plan.deciding), (2, vec![2, 3, 1], 0));
     assert_eq!(create(&mut image, 0, 1, 9, ALL), Answer { a: 2, ..made(3) });
     assert_eq!(free(&image), [3, 4, 5, 6, 7]);
     assert_eq!(last(&image), -1);
@@ -130,10 +104,7 @@ fn m12_cuts_and_repairs() {
         assert_eq!(answer, made(limit.min(5)));
         assert_eq!(plan.answer, made(5));
         let mut block = [1; 512];
-        assert_eq!(
-            check(&image, 0, 1).outcome == DONE,
-            limit == 0 || limit >= 5
-        );
+        assert_eq!(check(&image, 0, 1).outcome == DONE, limit == 0 || limit >= 5);
         assert_eq!(repair(&mut image, 0, 1, ALL), made(7));
         assert_eq!(read(&image, 0, 1, 2, 0, &mut block), Answer::default());
         assert_eq!(block, [5; 512]);
@@ -154,27 +125,13 @@ fn m12_destroy() {
     write(&mut image, 0, 1, 2, 1, &[6; 512], ALL);
     assert_eq!(free(&image), [5, 6, 7]);
     assert_eq!(inspect::file_blocks(&image, 0, 1, 2), Some(vec![2, 3, 4]));
-    assert_eq!(
-        check(&image, 0, 1),
-        Answer {
-            a: 1,
-            b: 3,
-            c: 3,
-            ..Answer::default()
-        }
-    );
+    assert_eq!(check(&image, 0, 1), Answer { a: 1, b: 3, c: 3, ..Answer::default() });
 
     let plan = plan_destroy(&image, 0, 1, 2);
     assert_eq!((blocks(&plan), plan.deciding), (vec![2, 4, 7, 1], 0));
     assert_eq!(destroy(&mut image, 0, 1, 2, ALL), made(4));
     assert_eq!(free(&image), [5, 6, 7, 2, 3, 4]);
-    assert_eq!(
-        check(&image, 0, 1),
-        Answer {
-            c: 6,
-            ..Answer::default()
-        }
-    );
+    assert_eq!(check(&image, 0, 1), Answer { c: 6, ..Answer::default() });
     // Serial, relative number, filler, next, previous; the PDA of these LBNs is 32 more.
     let header = |b| [0, 1, 2, 3, 4, 5, 6, 7].map(|at| word(&image, b, at));
     assert_eq!(header(2), [0, 0, 0xFFFF, 5, 35, 0, 39, 0]);

@@ -1,7 +1,9 @@
 //! Random calls, whole and cut, against a plain model: files as lists of blocks' data, and the free
 //! chain as a list. A cut call is repaired and must leave the old or the new files by its deciding store.
+//! LDAs are looked at too: what stays and what is written anew.
 
 mod common;
+use common::low_bits::*;
 use common::*;
 use reference::sample::Rng;
 use reference::*;
@@ -75,12 +77,8 @@ impl Model {
             Op::Create(kind) => {
                 let f = new.take(1)?[0];
                 let description = vec![0; 104];
-                let file = ModelFile {
-                    kind: *kind,
-                    description,
-                    data: Vec::new(),
-                    blocks: vec![f],
-                };
+                let file =
+                    ModelFile { kind: *kind, description, data: Vec::new(), blocks: vec![f] };
                 new.files.insert(f, file);
             }
             Op::Write(f, r, data) => new.write(*f, *r as usize, data)?,
@@ -124,11 +122,7 @@ impl Model {
 
     /// The same files, the free blocks ascending: what repair leaves.
     fn repaired(mut self) -> Model {
-        let owned: Vec<u32> = self
-            .files
-            .values()
-            .flat_map(|file| file.blocks.clone())
-            .collect();
+        let owned: Vec<u32> = self.files.values().flat_map(|file| file.blocks.clone()).collect();
         self.free = (S + 1..=E).filter(|b| !owned.contains(b)).collect();
         self
     }
@@ -185,19 +179,9 @@ fn step(rng: &mut Rng, image: &mut [u8], drive: u32, model: Model) -> Model {
     };
     let stores = plan.stores.len();
     assert!((1..=7).contains(&stores) && plan.deciding < stores);
-    let limit = if rng.below(2) == 0 {
-        ALL
-    } else {
-        rng.below(stores as u32 + 1)
-    };
+    let limit = if rng.below(2) == 0 { ALL } else { rng.below(stores as u32 + 1) };
     let made = stores.min(limit as usize);
-    assert_eq!(
-        call(image, drive, &op, limit),
-        Answer {
-            made: made as u32,
-            ..plan.answer
-        }
-    );
+    assert_eq!(call(image, drive, &op, limit), Answer { made: made as u32, ..plan.answer });
     if made == stores {
         return new;
     }
@@ -209,21 +193,62 @@ fn step(rng: &mut Rng, image: &mut [u8], drive: u32, model: Model) -> Model {
     }
 }
 
+/// All LDAs of the PIB and of the files.
+fn ldas(image: &[u8], model: &Model) -> Vec<Place> {
+    let of_file = |(&f, file): (&u32, &ModelFile)| ldas_of_file(image, f, file.data.len() as u32);
+    ldas_of_pib(S).into_iter().chain(model.files.iter().flat_map(of_file)).collect()
+}
+
+/// Request 2: an LDA is the one that stood in its place before, if that named the same block, and else
+/// has no low bits. A record that is new to its file had no LDA in that place.
+fn kept_or_clean(before: &[u8], old: &Model, after: &[u8], new: &Model) {
+    let had = |f: u32, b: u32| old.files.get(&f).is_some_and(|file| file.blocks.contains(&b));
+    let stayed: Vec<u32> = new
+        .files
+        .iter()
+        .flat_map(|(&f, file)| file.blocks.iter().copied().filter(move |&b| had(f, b)))
+        .chain([S])
+        .collect();
+    for (b, at) in ldas(after, new) {
+        let (was, is) = (pair(before, b, at), pair(after, b, at));
+        let clean = is & 0xFFFF_FF00;
+        let keeps = stayed.contains(&b) && was & 0xFFFF_FF00 == clean;
+        assert_eq!(is, if keeps { was } else { clean }, "block {b} word {at}");
+    }
+}
+
+/// So many random calls; with `low_bits`, in images that have them in every LDA now and then.
+fn agree(drive: u32, seed: u64, calls: u32, low_bits: bool) {
+    let mut rng = Rng::new(seed * 4 + u64::from(drive));
+    let lengths = [rng.below(70), rng.below(200), rng.below(66), 0];
+    let mut image = sample::scattered(drive, N, S, E, &lengths, seed);
+    let outside = |image: &[u8]| [&image[..528 * 7], &image[528 * 391..]].concat();
+    let before = outside(&image);
+    let mut model = observe(&image, drive);
+    for call in 0..calls {
+        if low_bits && call % 8 == 0 {
+            let places = ldas(&image, &model);
+            lay_low_bits(&mut image, &places);
+            assert_eq!(observe(&image, drive), model);
+        }
+        let (image_before, model_before) = (image.clone(), model.clone());
+        model = step(&mut rng, &mut image, drive, model);
+        assert_eq!(observe(&image, drive), model);
+        kept_or_clean(&image_before, &model_before, &image, &model);
+    }
+    assert!(outside(&image) == before);
+}
+
 #[test]
 fn random_calls_agree_with_the_model() {
     for drive in 0..4 {
-        for seed in 0..2 {
-            let mut rng = Rng::new(seed * 4 + u64::from(drive));
-            let lengths = [rng.below(70), rng.below(200), rng.below(66), 0];
-            let mut image = sample::scattered(drive, N, S, E, &lengths, seed);
-            let outside = |image: &[u8]| [&image[..528 * 7], &image[528 * 391..]].concat();
-            let before = outside(&image);
-            let mut model = observe(&image, drive);
-            for _ in 0..200 {
-                model = step(&mut rng, &mut image, drive, model);
-                assert_eq!(observe(&image, drive), model);
-            }
-            assert!(outside(&image) == before);
-        }
+        (0..2).for_each(|seed| agree(drive, seed, 200, false));
+    }
+}
+
+#[test]
+fn random_calls_among_low_bits_agree_with_the_model() {
+    for drive in 0..4 {
+        (2..4).for_each(|seed| agree(drive, seed, 200, true));
     }
 }

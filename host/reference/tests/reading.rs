@@ -15,13 +15,7 @@ fn image() -> Vec<u8> {
 fn next_file_goes_upwards() {
     let mut image = image();
     for (after, next) in [(0, 6), (5, 6), (6, 7), (7, 8), (8, 9)] {
-        assert_eq!(
-            next_file(&image, 2, 5, after),
-            Answer {
-                a: next,
-                ..Answer::default()
-            }
-        );
+        assert_eq!(next_file(&image, 2, 5, after), Answer { a: next, ..Answer::default() });
     }
     for after in [9, 299, 300, 309, 310, u32::MAX] {
         assert_eq!(next_file(&image, 2, 5, after), absent());
@@ -36,27 +30,14 @@ fn read_show_and_extract_agree() {
     for (i, &length) in LENGTHS.iter().enumerate() {
         let f = 6 + i as u32;
         let mut whole = vec![0; 512 * length as usize];
-        assert_eq!(
-            extract(&image, 2, 5, f, &mut whole),
-            Answer {
-                a: length,
-                ..Answer::default()
-            }
-        );
+        assert_eq!(extract(&image, 2, 5, f, &mut whole), Answer { a: length, ..Answer::default() });
         for r in 0..length {
             let data = sample::content(3, i, r);
             let mut block = [0; 512];
             assert_eq!(read(&image, 2, 5, f, r, &mut block), Answer::default());
             assert_eq!(block, data);
             let shown = show(&image, 2, 5, f, r);
-            assert_eq!(
-                shown,
-                Answer {
-                    a: shown.a,
-                    b: 512,
-                    ..Answer::default()
-                }
-            );
+            assert_eq!(shown, Answer { a: shown.a, b: 512, ..Answer::default() });
             assert_eq!(image[shown.a as usize..][..512], data);
             assert_eq!(whole[512 * r as usize..][..512], data);
         }
@@ -79,10 +60,7 @@ fn reading_needs_no_sound_partition() {
     }
     set_word(&mut image, 9, 8 + 253, 0);
     assert_eq!(show(&image, 2, 5, 6, 199), good);
-    assert_eq!(
-        description(&image, 2, 5, 6, &mut [0; 104]),
-        Answer::default()
-    );
+    assert_eq!(description(&image, 2, 5, 6, &mut [0; 104]), Answer::default());
 }
 
 /// In the repaired image the file at 7 has one block, the file at 8 is gone, 6 is malformed.

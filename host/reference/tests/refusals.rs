@@ -69,22 +69,13 @@ fn two_for_no_good_partition() {
         set_pair(&mut image, 2, 8 + 120, end);
         image
     };
-    for (start, end) in [
-        (lda(3), lda(20)),
-        (0, lda(20)),
-        (lda(2), lda(2)),
-        (lda(2), lda(1)),
-    ] {
+    for (start, end) in [(lda(3), lda(20)), (0, lda(20)), (lda(2), lda(2)), (lda(2), lda(1))] {
         all_refused(&with(start, end), 0, 2, 2);
     }
-    for (start, end) in [
-        (lda(2), lda(22)),
-        (lda(2), 0),
-        (lda(2), lda(20) + 1),
-        (2, 20),
-    ] {
+    for (start, end) in [(lda(2), lda(22)), (lda(2), 0), (2, 20), (lda(2), 1), (0xFF, lda(20))] {
         all_refused(&with(start, end), 0, 2, 2);
     }
+    assert_eq!(check(&with(lda(2), lda(20) + 1), 0, 2), check(&whole, 0, 2));
     assert_eq!(check(&with(lda(2), lda(21)), 0, 2), refused(5));
     assert_eq!(read(&whole, 0, 3, 3, 0, &mut []), refused(2));
 }
@@ -128,13 +119,7 @@ fn four_names_the_lowest_or_f() {
     set_word(&mut whole, 4, 8 + 250, 1);
     set_word(&mut whole, 2, 8 + 4, 0); // not sound either; 4 comes first
     let answers = every_call(&whole, 0, 2, 4, 0);
-    assert_eq!(
-        answers[1],
-        Answer {
-            a: 3,
-            ..Answer::default()
-        }
-    );
+    assert_eq!(answers[1], Answer { a: 3, ..Answer::default() });
     for at in [0, 2, 3, 4, 5, 6, 7, 8, 9, 10] {
         assert_eq!(answers[at], malformed(4));
     }
@@ -155,10 +140,7 @@ fn five_for_an_unsound_partition() {
     for at in [0, 6, 7, 8, 9] {
         assert_eq!(answers[at], refused(5));
     }
-    assert_eq!(
-        write(&mut whole, 0, 2, 21, 5000, &[0; 512], ALL),
-        refused(5)
-    );
+    assert_eq!(write(&mut whole, 0, 2, 21, 5000, &[0; 512], ALL), refused(5));
     assert_eq!(repair(&mut whole, 0, 2, ALL).outcome, DONE);
     assert_eq!(check(&whole, 0, 2).outcome, DONE);
 }
@@ -186,56 +168,28 @@ fn seven_for_r() {
     assert_eq!(read(&whole, 0, 2, 3, 4_159, &mut buffer), absent());
     assert_eq!(buffer, [0; 512]);
     for r in [3, 4_159, 4_160, u32::MAX] {
-        assert_eq!(
-            write(&mut whole.clone(), 0, 2, 3, r, &buffer, ALL),
-            refused(7)
-        );
+        assert_eq!(write(&mut whole.clone(), 0, 2, 3, r, &buffer, ALL), refused(7));
     }
-    assert_eq!(
-        write(&mut whole.clone(), 0, 2, 4, 1, &buffer, ALL),
-        refused(7)
-    );
+    assert_eq!(write(&mut whole.clone(), 0, 2, 4, 1, &buffer, ALL), refused(7));
     let full = sample::scattered(0, 4_200, 1, 4_199, &[4_160], 1);
-    assert_eq!(
-        write(&mut full.clone(), 0, 1, 2, 4_160, &buffer, ALL),
-        refused(7)
-    );
-    assert_eq!(
-        write(&mut full.clone(), 0, 1, 2, 4_159, &buffer, ALL).made,
-        1
-    );
+    assert_eq!(write(&mut full.clone(), 0, 1, 2, 4_160, &buffer, ALL), refused(7));
+    assert_eq!(write(&mut full.clone(), 0, 1, 2, 4_159, &buffer, ALL).made, 1);
 }
 
 #[test]
 fn eight_for_the_last_free_blocks() {
     // One file at 2; e leaves one free block, then two, with L = 63 or 10.
-    for (length, free, append, new) in [
-        (10, 1, 8, 8),
-        (10, 2, 0, 0),
-        (64, 1, 8, 8),
-        (64, 2, 8, 0),
-        (64, 3, 0, 0),
-    ] {
+    for (length, free, append, new) in
+        [(10, 1, 8, 8), (10, 2, 0, 0), (64, 1, 8, 8), (64, 2, 8, 0), (64, 3, 0, 0)]
+    {
         let e = 2 + length + free;
         let mut image = sample::scattered(0, e + 1, 1, e, &[length], 1);
         assert_eq!(check(&image, 0, 1).c, free);
-        assert_eq!(
-            write(&mut image.clone(), 0, 1, 2, length, &[0; 512], ALL).number,
-            append
-        );
-        assert_eq!(
-            write(&mut image.clone(), 0, 1, 2, length + 1, &[0; 512], ALL).number,
-            7
-        );
+        assert_eq!(write(&mut image.clone(), 0, 1, 2, length, &[0; 512], ALL).number, append);
+        assert_eq!(write(&mut image.clone(), 0, 1, 2, length + 1, &[0; 512], ALL).number, 7);
         assert_eq!(create(&mut image.clone(), 0, 1, 0, ALL).number, new);
-        assert_eq!(
-            write(&mut image.clone(), 0, 1, 2, 0, &[0; 512], ALL).made,
-            1
-        );
-        assert_eq!(
-            describe(&mut image.clone(), 0, 1, 2, &[0; 104], ALL).made,
-            1
-        );
+        assert_eq!(write(&mut image.clone(), 0, 1, 2, 0, &[0; 512], ALL).made, 1);
+        assert_eq!(describe(&mut image.clone(), 0, 1, 2, &[0; 104], ALL).made, 1);
         assert_eq!(destroy(&mut image, 0, 1, 2, ALL).made, 4);
     }
 }
@@ -261,14 +215,7 @@ fn nine_for_no_unowned_block() {
 
 #[test]
 fn ten_for_what_does_not_convert() {
-    for call in [
-        lbn_to_pda,
-        lbn_to_lda,
-        lbn_to_fileid,
-        pda_to_lbn,
-        lda_to_lbn,
-        fileid_to_lbn,
-    ] {
+    for call in [lbn_to_pda, lbn_to_lda, lbn_to_fileid, pda_to_lbn, lda_to_lbn, fileid_to_lbn] {
         assert_eq!(call(0, 60_000), refused(10));
         assert_eq!(call(4, 60_000), refused(1));
     }

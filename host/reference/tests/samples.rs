@@ -7,24 +7,13 @@ use reference::*;
 
 #[test]
 fn blank_is_repaired_to_fresh() {
-    for (drive, n, s, e) in [
-        (0, 8, 1, 7),
-        (1, 500, 3, 400),
-        (2, 3, 1, 2),
-        (3, 432, 100, 431),
-    ] {
+    for (drive, n, s, e) in [(0, 8, 1, 7), (1, 500, 3, 400), (2, 3, 1, 2), (3, 432, 100, 431)] {
         let mut image = blank(drive, n, s, e);
         assert_eq!(image.len(), 528 * n as usize);
         assert_eq!(check(&image, drive, s), refused(5));
         assert_eq!(repair(&mut image, drive, s, ALL).made, e - s + 1);
         assert!(image == fresh(drive, n, s, e));
-        assert_eq!(
-            check(&image, drive, s),
-            Answer {
-                c: e - s,
-                ..Answer::default()
-            }
-        );
+        assert_eq!(check(&image, drive, s), Answer { c: e - s, ..Answer::default() });
     }
 }
 
@@ -51,39 +40,21 @@ fn scattered_is_what_the_calls_make() {
 
 #[test]
 fn large_partitions_are_sound() {
-    let lengths: [u32; 12] = [
-        4_160, 4_160, 4_159, 4_000, 3_000, 1_000, 192, 191, 64, 63, 1, 0,
-    ];
+    let lengths: [u32; 12] = [4_160, 4_160, 4_159, 4_000, 3_000, 1_000, 192, 191, 64, 63, 1, 0];
     let blocks = |&length: &u32| 1 + length + length.saturating_sub(64).div_ceil(128);
     let owned: u32 = lengths.iter().map(blocks).sum();
     let image = scattered(2, 69_552, 30_000, 62_766, &lengths, 7);
-    let expected = Answer {
-        a: 12,
-        b: owned,
-        c: 32_766 - owned,
-        ..Answer::default()
-    };
+    let expected = Answer { a: 12, b: owned, c: 32_766 - owned, ..Answer::default() };
     assert_eq!(check(&image, 2, 30_000), expected);
     let full = scattered(0, 4_200, 1, 4_195, &[4_160], 7);
-    assert_eq!(
-        check(&full, 0, 1),
-        Answer {
-            a: 1,
-            b: 4_193,
-            c: 1,
-            ..Answer::default()
-        }
-    );
+    assert_eq!(check(&full, 0, 1), Answer { a: 1, b: 4_193, c: 1, ..Answer::default() });
 }
 
 #[test]
 fn scattered_files_are_interleaved() {
     let image = scattered(1, 1_000, 1, 999, &[300, 300], 9);
     let blocks = inspect::file_blocks(&image, 1, 1, 2).unwrap();
-    let gaps = blocks[3..]
-        .windows(2)
-        .filter(|pair| pair[1] != pair[0] + 1)
-        .count();
+    let gaps = blocks[3..].windows(2).filter(|pair| pair[1] != pair[0] + 1).count();
     assert!(gaps > 100);
     assert!(image != scattered(1, 1_000, 1, 999, &[300, 300], 10));
 }

@@ -19,18 +19,6 @@ fn one_file(length: u32) -> Vec<u8> {
     sample::scattered(DRIVE, 432, 1, 420, &[length], 5)
 }
 
-/// The image with these words changed; a pair is two words.
-fn with(image: &[u8], words: &[(u32, usize, u16)], pairs: &[(u32, usize, u32)]) -> Vec<u8> {
-    let mut image = image.to_vec();
-    for &(b, at, value) in words {
-        set_word(&mut image, b, at, value);
-    }
-    for &(b, at, value) in pairs {
-        set_pair(&mut image, b, at, value);
-    }
-    image
-}
-
 #[test]
 fn append_store_lists() {
     // r, stores: data, pointer block, old last, old most negative, FIB, new first free, PIB.
@@ -56,11 +44,7 @@ fn append_store_lists() {
 
 #[test]
 fn append_with_the_first_pointer_block() {
-    let before = with(
-        &one_file(64),
-        &[(67, 3, 0xAAAA), (68, 3, 0xBBBB)],
-        &[(68, 8 + 100, 77)],
-    );
+    let before = with(&one_file(64), &[(67, 3, 0xAAAA), (68, 3, 0xBBBB)], &[(68, 8 + 100, 77)]);
     let mut after = before.clone();
     write(&mut after, DRIVE, 1, 2, 64, &[9; 512], ALL);
     let words = [
@@ -136,10 +120,7 @@ fn append_with_the_second_pointer_block() {
 fn destroy_with_pointer_blocks() {
     let before = one_file(193);
     let plan = plan_destroy(&before, DRIVE, 1, 2);
-    assert_eq!(
-        (blocks(&plan), plan.deciding),
-        (vec![2, 197, 196, 420, 1], 0)
-    );
+    assert_eq!((blocks(&plan), plan.deciding), (vec![2, 197, 196, 420, 1], 0));
     let mut after = before.clone();
     assert_eq!(destroy(&mut after, DRIVE, 1, 2, ALL), made(5));
     let words = [(197, 3, 198), (196, 3, 198)];
@@ -164,13 +145,8 @@ fn destroy_of_an_empty_file() {
     let mut after = before.clone();
     assert_eq!(blocks(&plan_destroy(&before, DRIVE, 1, 2)), [2, 420, 1]);
     destroy(&mut after, DRIVE, 1, 2, ALL);
-    let pairs = [
-        (2, 0, 0),
-        (2, 6, pda(420)),
-        (420, 4, pda(2)),
-        (1, 8 + 2, lda(2)),
-        (1, 8 + 4, 419),
-    ];
+    let pairs =
+        [(2, 0, 0), (2, 6, pda(420)), (420, 4, pda(2)), (1, 8 + 2, lda(2)), (1, 8 + 4, 419)];
     assert!(after == with(&before, &[(2, 3, 3)], &pairs));
 }
 
@@ -194,10 +170,7 @@ fn replace_and_describe() {
     expected[528 * 2 + 16..][..104].fill(8);
     assert!(after == expected);
     let mut words = [0; 104];
-    assert_eq!(
-        description(&after, DRIVE, 1, 2, &mut words),
-        Answer::default()
-    );
+    assert_eq!(description(&after, DRIVE, 1, 2, &mut words), Answer::default());
     assert_eq!(words, [8; 104]);
 }
 
@@ -255,11 +228,7 @@ fn cut_everywhere(before: &[u8], plan: &Plan) {
         let mut cut = before.to_vec();
         assert_eq!(plan.apply(&mut cut, limit as u32).made, limit as u32);
         assert_eq!(repair(&mut cut, DRIVE, 1, ALL).outcome, DONE);
-        let whole = if limit > plan.deciding {
-            &after[..]
-        } else {
-            before
-        };
+        let whole = if limit > plan.deciding { &after[..] } else { before };
         assert!(contents(&cut) == contents(whole));
     }
 }
@@ -268,10 +237,7 @@ fn cut_everywhere(before: &[u8], plan: &Plan) {
 fn cuts_around_pointer_blocks() {
     for length in [0, 1, 63, 64, 65, 191, 192, 193] {
         let before = one_file(length);
-        cut_everywhere(
-            &before,
-            &plan_write(&before, DRIVE, 1, 2, length, &[9; 512]),
-        );
+        cut_everywhere(&before, &plan_write(&before, DRIVE, 1, 2, length, &[9; 512]));
         cut_everywhere(&before, &plan_destroy(&before, DRIVE, 1, 2));
     }
 }

@@ -39,20 +39,25 @@ fn expected(role: Role, b: u32, word: usize) -> Option<Answer> {
     }
 }
 
+/// Whether this word is the low word of an LDA that check needs; bits 0-7 of it may be any. A nil entry
+/// is none: it must stay nil.
+fn holds_reserved_bits(image: &[u8], role: Role, b: u32, word: usize) -> bool {
+    let data = word.wrapping_sub(8);
+    let place = match role {
+        Role::Pib => [0, 2, 118, 120].contains(&data),
+        Role::Fib => (52..244).contains(&data) && data % 2 == 0 || [251, 254].contains(&data),
+        Role::Pointer(_, used) => data < 2 * used && data % 2 == 0,
+        Role::Data(_) | Role::Free => false,
+    };
+    place && pair(image, b, word) != 0
+}
+
 fn roles(image: &[u8]) -> Vec<(u32, Role)> {
     let long = inspect::file_blocks(image, 1, 2, 3).unwrap();
     let short = inspect::file_blocks(image, 1, 2, 5).unwrap();
     let free = inspect::free_chain(image, 1, 2).unwrap();
-    let mut roles = vec![
-        (2, Role::Pib),
-        (3, Role::Fib),
-        (4, Role::Fib),
-        (5, Role::Fib),
-    ];
-    roles.extend([
-        (long[0], Role::Pointer(3, 8)),
-        (long[1], Role::Pointer(3, 128)),
-    ]);
+    let mut roles = vec![(2, Role::Pib), (3, Role::Fib), (4, Role::Fib), (5, Role::Fib)];
+    roles.extend([(long[0], Role::Pointer(3, 8)), (long[1], Role::Pointer(3, 128))]);
     roles.extend([3, 66, 67, 202].map(|at| (long[at], Role::Data(3))));
     roles.extend([1, 2, 3].map(|at| (short[at], Role::Data(5))));
     roles.extend([0, 1, 2, free.len() - 3, free.len() - 1].map(|at| (free[at], Role::Free)));
@@ -66,7 +71,7 @@ fn every_wrong_word() {
     assert_eq!(good.outcome, DONE);
     for (b, role) in roles(&whole) {
         for at in 0..264 {
-            for flip in [1, 0x0100, 0x8000, 0xFFFF] {
+            for flip in [1, 0x00FF, 0x0100, 0x8000, 0xFFFF] {
                 let mut image = whole.clone();
                 set_word(&mut image, b, at, word(&whole, b, at) ^ flip);
                 let answer = check(&image, 1, 2);
@@ -74,6 +79,7 @@ fn every_wrong_word() {
                     // End 260 becomes 261, the image's last block, or 4, which cuts file 3.
                     (Role::Pib, 120, 0x0100) => refused(5),
                     (Role::Pib, 121, 1) => malformed(3),
+                    (_, _, 0..=0xFF) if holds_reserved_bits(&whole, role, b, at) => good,
                     _ => expected(role, b, at).unwrap_or(good),
                 };
                 assert_eq!(answer, wanted, "block {b} word {at} flip {flip}");
@@ -96,15 +102,7 @@ fn a_free_candidate_is_malformed() {
 fn entries_outside_and_swapped() {
     let whole = image();
     let lda = |lbn| lbn_to_lda(1, lbn).a;
-    for wrong in [
-        0,
-        lda(1),
-        lda(2),
-        lda(3),
-        lda(261),
-        lda(262),
-        lbn_to_pda(1, 7).a,
-    ] {
+    for wrong in [0, lda(1), lda(2), lda(3), lda(261), lda(262), lbn_to_pda(1, 7).a] {
         let mut image = whole.clone();
         set_pair(&mut image, 3, 8 + 52, wrong);
         assert_eq!(check(&image, 1, 2), malformed(3));

@@ -39,7 +39,7 @@ enum Kind {
     Lbn,
     /// A physical disk address
     Pda,
-    /// A logical disk address
+    /// A logical disk address, whose reserved bits (0-7 of the low word) are ignored
     Lda,
     /// A FileID
     Fileid,
@@ -70,20 +70,39 @@ pub fn or_refusal<T: Display>(value: &Result<T, Refusal>) -> String {
     }
 }
 
-/// The block that the arguments name.
-fn block(arguments: &Arguments) -> Result<u32, Problem> {
-    let Arguments { drive, kind, ref first, ref second } = *arguments;
-    Ok(match (kind, second) {
-        (Kind::Lbn, None) => decimal(first)?,
-        (Kind::Fileid, None) => perq::fileid_to_lbn(drive, decimal(first)?)?,
-        (Kind::Pda, Some(high)) => perq::pda_to_lbn(drive, octal(first, high)?)?,
-        (Kind::Lda, Some(high)) => perq::lda_to_lbn(drive, octal(first, high)?)?,
+/// The number that the arguments give: an address is low + 65,536 * high.
+fn given(arguments: &Arguments) -> Result<u32, Problem> {
+    let Arguments { kind, ref first, ref second, .. } = *arguments;
+    match (kind, second) {
+        (Kind::Lbn | Kind::Fileid, None) => decimal(first),
+        (Kind::Pda | Kind::Lda, Some(high)) => octal(first, high),
         (Kind::Lbn | Kind::Fileid, Some(_)) => {
-            return Err(Problem::usage("an LBN or a FileID is one number"))
+            Err(Problem::usage("an LBN or a FileID is one number"))
         }
         (Kind::Pda | Kind::Lda, None) => {
-            return Err(Problem::usage("an address is two words: low and high"))
+            Err(Problem::usage("an address is two words: low and high"))
         }
+    }
+}
+
+/// The block that a number names.
+fn block(drive: Drive, kind: Kind, number: u32) -> Result<u32, Refusal> {
+    match kind {
+        Kind::Lbn => Ok(number),
+        Kind::Pda => perq::pda_to_lbn(drive, number),
+        Kind::Lda => perq::lda_to_lbn(drive, number),
+        Kind::Fileid => perq::fileid_to_lbn(drive, number),
+    }
+}
+
+/// What is said of an LDA with reserved bits set: the one that is shown has none.
+fn remark(kind: Kind, number: u32, names: &Names) -> Option<String> {
+    let has_bits = matches!(kind, Kind::Lda) && number != names.lda.0;
+    has_bits.then(|| {
+        format!(
+            "the LDA that was given, {} O, has reserved bits set (0-7 of its low word), which are ignored",
+            Words(number)
+        )
     })
 }
 
@@ -109,18 +128,21 @@ fn no_number(text: &str, error: &ParseIntError, sort: &str, room: &str) -> Probl
 }
 
 pub fn run(arguments: &Arguments) -> Result<Told, Problem> {
-    let drive = arguments.drive;
-    let names = names(drive, block(arguments)?)?;
+    let Arguments { drive, kind, .. } = *arguments;
+    let number = given(arguments)?;
+    let names = names(drive, block(drive, kind, number)?)?;
+    let remark = remark(kind, number, &names);
     let rows = [
         format!("drive   {} ({drive})\n", drive.number()),
         format!("LBN     {}\n", names.lbn),
         format!("PDA     {} O\n", names.pda),
         format!("LDA     {} O\n", names.lda),
         format!("FileID  {}\n", or_refusal(&names.fileid)),
+        remark.as_ref().map_or(String::new(), |remark| format!("{remark}\n")),
     ];
     let fields = json!({
         "drive": drive.number(), "lbn": names.lbn, "pda": names.pda.0, "lda": names.lda.0,
-        "fileid": names.fileid.ok(),
+        "fileid": names.fileid.ok(), "remark": remark,
     });
     Ok(Told::done(rows.concat(), fields))
 }

@@ -8,8 +8,14 @@ use reference::tree_sample::{Line, Names, Node, Tree};
 use serde_json::{json, Value};
 
 /// How `tree` shows each dangling entry of the root, its words and block in JSON, and what is said of a path to it.
-const ENTRIES: [(&str, &str, &str, Option<u32>); 8] = [
+const ENTRIES: [(&str, &str, &str, Option<u32>); 10] = [
     ("nil", "it holds nil", "nil", None),
+    (
+        "bits alone",
+        "it holds no address of a block of the partition",
+        "no block of the partition",
+        None,
+    ),
     (
         "smudged",
         "it holds no address of a block of the partition",
@@ -30,6 +36,7 @@ const ENTRIES: [(&str, &str, &str, Option<u32>); 8] = [
     ),
     ("own", "it names block 6, which is no file", "no file", Some(6)),
     ("last", "it names block 400, which is no file", "no file", Some(400)),
+    ("with bits", "it names block 399, which is no file", "no file", Some(399)),
     ("torn", "it names block 8, a malformed file block", "malformed file block", Some(8)),
     ("folder", "it names block 9, a malformed file block", "malformed file block", Some(9)),
 ];
@@ -39,11 +46,13 @@ fn image() -> Vec<u8> {
     let lda = |block| reference::lbn_to_lda(FLOPPY, block).a;
     let held = [
         Names::Words(0),
+        Names::Words(0xC1),
         Names::Smudged(3),
         Names::Words(lda(5)),
         Names::Words(lda(401)),
         Names::Block(0),
         Names::Words(lda(400)),
+        Names::Words(lda(399) | 0xC1),
         Names::Node(1),
         Names::Node(2),
     ];
@@ -71,7 +80,7 @@ fn a_dangling_entry_says_what_it_holds() {
     let text = printed(&["tree", &image]);
     let found = object(&["tree", &image]);
     let entries = found["entries"].as_array().expect("a list");
-    assert_eq!(entries.len(), 9);
+    assert_eq!(entries.len(), 11);
     for (name, words, word, block) in ENTRIES {
         assert!(text.contains(&format!("     -  {name}  (dangling: {words})\n")), "{name}: {text}");
         let entry = entries.iter().find(|entry| entry["name"] == name).expect("it is there");

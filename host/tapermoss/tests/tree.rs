@@ -116,8 +116,11 @@ fn a_root_that_is_no_file_is_refused_by_6_and_said_why() {
         (with_root(lda(400)), "names block 400, which is no file"),
         (with_root(lda(6)), "names block 6, which is no file"),
         (with_root(lda(3)), "names block 3, which is no file"),
-        // Bit 0 of the low word is set: 7 in the high byte is 003400 O, and the high word has bits 13 to 15.
-        (with_root(lda(7) | 1), "is 003401 160000 in octal, which is no block's LDA"),
+        // Reserved bits are ignored in an address; alone they are neither nil nor one.
+        (with_root(lda(400) | 5), "names block 400, which is no file"),
+        (with_root(0o301), "is 000301 000000 in octal, which is no block's LDA"),
+        // Block 7 is 003400 O; the high word of a floppy's LDA has bits 13 to 15, and here bit 15 is clear.
+        (with_root(lda(7) ^ 1 << 31), "is 003400 060000 in octal, which is no block's LDA"),
         (malformed, "names block 7, a malformed file block"),
     ];
     for (bytes, told) in images {

@@ -1,10 +1,12 @@
 //! Damage to an image: a field that a rule reads gets another value, likely ones among them, or records change places.
 
 use crate::images::{
-    is_candidate, pair, record, set_pair, set_record, set_word, word, Place, DATA_WORD,
+    entry_addresses, fib_addresses, is_candidate, pair, pointer_addresses, record, set_pair,
+    set_record, set_word, word, Place, DATA_WORD, PIB_ADDRESSES,
 };
+use crate::low_bits::LOW;
 use reference::directory::SORT;
-use reference::image::{NEXT, PREVIOUS, RECORD, RELATIVE, ROOT_DIRECTORY, SERIAL};
+use reference::image::{NEXT, NUMBER_FREE, PREVIOUS, RECORD, RELATIVE, SERIAL};
 use reference::sample::Rng;
 use reference::{lda_to_lbn, pda_to_lbn, DONE};
 
@@ -31,42 +33,42 @@ pub fn header_fields() -> Vec<Field> {
 /// A file's own block: three words of its description (the middle one tells directories), every entry of its index, and
 /// all that follows.
 pub fn fib_fields() -> Vec<Field> {
-    let entries = (52..248).step_by(2).map(|at| two(DATA_WORD + at));
+    let addresses = fib_addresses().map(|at| two(DATA_WORD + at));
     let numbers = [0, SORT, 51, 248, 249, 250, 253].map(|at| one(DATA_WORD + at));
-    let addresses = [251, 254].map(|at| two(DATA_WORD + at));
-    entries.chain(numbers).chain(addresses).collect()
+    addresses.chain(numbers).collect()
 }
 
 /// The partition's first block: head and tail of the free chain, its number, the root directory, start and end, and a
 /// word of no meaning.
 pub fn pib_fields() -> Vec<Field> {
-    let pairs = [0, 2, 4, ROOT_DIRECTORY, 118, 120];
-    let mut fields: Vec<Field> = pairs.iter().map(|at| two(DATA_WORD + at)).collect();
+    let pairs = PIB_ADDRESSES.into_iter().chain([NUMBER_FREE]);
+    let mut fields: Vec<Field> = pairs.map(|at| two(DATA_WORD + at)).collect();
     fields.push(one(DATA_WORD + 200));
     fields
 }
 
 /// The 16 entries of a directory block: the word that says whether it is valid, the address, the length with the first letter.
 pub fn entry_fields() -> Vec<Field> {
-    let entries = (DATA_WORD..DATA_WORD + 256).step_by(16);
-    entries.flat_map(|at| [one(at), two(at + 1), one(at + 3)]).collect()
+    let addresses = entry_addresses().map(|at| DATA_WORD + at);
+    addresses.flat_map(|at| [one(at - 1), two(at), one(at + 2)]).collect()
 }
 
 /// The 128 entries of a pointer block.
 pub fn pointer_fields() -> Vec<Field> {
-    (0..256).step_by(2).map(|at| two(DATA_WORD + at)).collect()
+    pointer_addresses().map(|at| two(DATA_WORD + at)).collect()
 }
 
-/// Values worth trying in an address field of block b that now holds `old`.
+/// Values worth trying in an address field of block b that now holds `old`; reserved bits alone are among them, and those
+/// of `old` and of other addresses set or turned.
 pub fn likely_pairs(place: &Place, b: u32, old: u32) -> Vec<u32> {
-    let mut values =
-        vec![0, 1, 255, u32::MAX, old ^ 1, old ^ 0x100, old ^ 0x1_0000, old ^ 0x8000_0000];
+    let mut values = vec![0, 1, LOW, u32::MAX];
+    values.extend([1, 0x80, LOW, 0x100, 0x1_0000, 0x8000_0000].map(|bits| old ^ bits));
     values.extend([old.wrapping_add(1), old.wrapping_sub(1), old.wrapping_add(256)]);
     values.extend([old.rotate_left(16), old & 0xFFFF, old >> 16]);
     let near =
         [place.s, place.s + 1, b, b + 1, b.saturating_sub(1), place.e, place.e + 1, place.n - 1];
     for block in near.iter().copied().filter(|&block| block < place.n) {
-        values.extend([place.pda(block), place.lda(block)]);
+        values.extend([place.pda(block), place.lda(block), place.lda(block) | 0x5A]);
     }
     values.push(other_kind(place, old));
     values
@@ -125,7 +127,8 @@ fn choose<T: Copy>(from: &[T], rng: &mut Rng) -> T {
     from[rng.below(from.len() as u32) as usize]
 }
 
-/// Sets a random field out of `fields` in block b to a likely value, to one of another block's, or to a random one.
+/// Sets a random field out of `fields` in block b to a likely value, to one of another block's, or to a random one; or turns
+/// reserved bits of an address, or of nil.
 fn set_some_field(image: &mut [u8], place: &Place, b: u32, fields: &[Field], rng: &mut Rng) {
     let field = choose(fields, rng);
     let elsewhere = place.any_block(rng);
@@ -133,7 +136,8 @@ fn set_some_field(image: &mut [u8], place: &Place, b: u32, fields: &[Field], rng
         0 | 1 => rng.number() as u32,
         2 => get(image, elsewhere, field),
         3 if field.is_pair => place.pda(elsewhere),
-        4 if field.is_pair => place.lda(elsewhere),
+        4 if field.is_pair => place.lda(elsewhere) | rng.below(2) * rng.below(LOW + 1),
+        5 if field.is_pair => get(image, b, field) ^ (1 + rng.below(LOW)),
         _ => choose(&values(image, place, b, field), rng),
     };
     set(image, b, field, value);

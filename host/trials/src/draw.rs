@@ -2,6 +2,7 @@
 
 use crate::call::{Call, Group, Name};
 use crate::images::{is_candidate, Place};
+use crate::low_bits::LOW;
 use crate::sweep;
 use reference::directory::LONGEST;
 use reference::file::DESCRIPTION;
@@ -110,10 +111,11 @@ pub fn aimed(call: Call, tree: &Tree, rng: &mut Rng) -> Call {
     Call { rule: rule(&tree.rule, rng), path: random_path(rng, tree), ..call }
 }
 
-/// A number to convert: a block or an address of one, or just beside it; or anything.
+/// A number to convert: a block or an address of one, with reserved bits or without, or just beside it; or anything.
 fn near_address(place: &Place, rng: &mut Rng) -> u32 {
     let b = place.any_block(rng);
-    let number = choose(&[b, place.pda(b), place.lda(b), b + 57_344, rng.number() as u32], rng);
+    let (lda, bits) = (place.lda(b), rng.below(LOW + 1));
+    let number = choose(&[b, place.pda(b), lda, lda | bits, b + 57_344, rng.number() as u32], rng);
     match rng.below(3) {
         0 => number ^ 1 << rng.below(32),
         _ => number,

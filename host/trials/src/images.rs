@@ -1,8 +1,12 @@
 //! Images to make calls on: places of words in them, and sound partitions whose blocks lie in any order.
 
 use crate::call::{Call, Name};
-use reference::file::{FIB, LAST_ADDRESS, LAST_NEGATIVE_ADDRESS};
-use reference::image::{FREE_HEAD, FREE_TAIL, HEADER, NEXT, PREVIOUS, RECORD, RELATIVE, SERIAL};
+use reference::directory::{ADDRESS, ENTRY};
+use reference::file::{DIRECT, FIB, KIND, LAST_ADDRESS, LAST_NEGATIVE_ADDRESS};
+use reference::image::{
+    DATA, FREE_HEAD, FREE_TAIL, HEADER, NEXT, PREVIOUS, RECORD, RELATIVE, SERIAL,
+};
+use reference::image::{PARTITION_END, PARTITION_START, ROOT_DIRECTORY};
 use reference::sample::{scattered, Rng};
 use reference::{lbn_to_lda, lbn_to_pda, lda_to_lbn, pda_to_lbn, DONE};
 
@@ -87,6 +91,25 @@ pub fn set_record(image: &mut [u8], b: u32, bytes: &[u8]) {
     image[RECORD * b as usize..][..RECORD].copy_from_slice(bytes);
 }
 
+/// The data words at which the LDAs of a partition's first block stand, two words each.
+pub const PIB_ADDRESSES: [usize; 5] =
+    [FREE_HEAD, FREE_TAIL, ROOT_DIRECTORY, PARTITION_START, PARTITION_END];
+
+/// The same of a file's own block: its whole index, the last address and the last negative one.
+pub fn fib_addresses() -> impl Iterator<Item = usize> {
+    (DIRECT..KIND).step_by(2).chain([LAST_ADDRESS, LAST_NEGATIVE_ADDRESS])
+}
+
+/// The same of a pointer block.
+pub fn pointer_addresses() -> impl Iterator<Item = usize> {
+    (0..DATA / 2).step_by(2)
+}
+
+/// The same of a directory's block.
+pub fn entry_addresses() -> impl Iterator<Item = usize> {
+    (0..DATA / 2).step_by(ENTRY / 2).map(|entry| entry + ADDRESS / 2)
+}
+
 /// Whether block b says that it is a file's own block.
 pub fn is_candidate(image: &[u8], place: &Place, b: u32) -> bool {
     pair(image, b, SERIAL) == place.pda(b) && word(image, b, RELATIVE) == FIB as u16
@@ -145,10 +168,10 @@ fn renamed(image: &[u8], place: &Place, order: &[u32]) -> Vec<u8> {
 /// The data words of block b that hold addresses of blocks.
 fn address_words(image: &[u8], place: &Place, b: u32) -> Vec<usize> {
     if is_candidate(image, place, b) {
-        return (52..244).step_by(2).chain([LAST_ADDRESS, LAST_NEGATIVE_ADDRESS]).collect();
+        return fib_addresses().collect();
     }
     let is_pointer = pair(image, b, SERIAL) != 0 && (word(image, b, RELATIVE) as i16) < FIB as i16;
-    (0..if is_pointer { 256 } else { 0 }).step_by(2).collect()
+    pointer_addresses().filter(|_| is_pointer).collect()
 }
 
 /// Random bytes in all that a sound partition leaves open: the blocks outside it, its first block but for its own words,

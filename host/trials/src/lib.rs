@@ -12,6 +12,7 @@ pub mod draw;
 #[allow(unsafe_code)]
 pub mod guard;
 pub mod images;
+pub mod low_bits;
 pub mod settings;
 pub mod sweep;
 pub mod tally;

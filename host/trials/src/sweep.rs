@@ -7,10 +7,20 @@ use reference::file::{DESCRIPTION, LAST_BLOCK};
 use reference::image::{DATA, RECORD};
 use reference::tree::ROW;
 use reference::tree_sample::Tree;
+use reference::DONE;
 
 /// A buffer that shows where a call has not written.
 fn untouched(length: usize) -> Vec<u8> {
     (0..length).map(|i| (i * 7 + 13) as u8).collect()
+}
+
+/// Check accepts the partition.
+///
+/// # Panics
+/// If it does not.
+pub fn must_be_sound(both: &mut Both, place: &Place) {
+    let answer = both.call(&place.call(Name::Check));
+    assert_eq!(answer.outcome, DONE, "{answer:?}");
 }
 
 /// Check, and next_file from every place where its answer could change.

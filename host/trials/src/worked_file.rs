@@ -1,7 +1,7 @@
 //! The files of tests/worked, read: cases of an image and a run of calls with their answers. The README beside them has the
 //! format.
 
-use crate::call::{Call, Name};
+use crate::call::{Call, Group, Name};
 use perq::RECORD;
 use reference::tree::ROW;
 use reference::Answer;
@@ -132,9 +132,15 @@ fn crc(word: &str) -> Option<u32> {
     Some(u32::from_be_bytes(bytes))
 }
 
-/// The call of this name, and how many arguments it has after the image.
+/// The call of this name, and how many arguments it has after the image; a conversion takes no image.
 fn named(name: &str) -> Option<(Name, usize)> {
     Some(match name {
+        "lbn_to_pda" => (Name::LbnToPda, 2),
+        "pda_to_lbn" => (Name::PdaToLbn, 2),
+        "lbn_to_lda" => (Name::LbnToLda, 2),
+        "lda_to_lbn" => (Name::LdaToLbn, 2),
+        "lbn_to_fileid" => (Name::LbnToFileid, 2),
+        "fileid_to_lbn" => (Name::FileidToLbn, 2),
         "check" => (Name::Check, 2),
         "next_file" => (Name::NextFile, 3),
         "read" => (Name::Read, 5),
@@ -152,7 +158,7 @@ fn named(name: &str) -> Option<(Name, usize)> {
     })
 }
 
-/// The arguments after the image, in the order of perq.h.
+/// The call of this name with the arguments after the image, in the order of perq.h.
 fn call(name: &str, words: &[&str]) -> Option<Call> {
     let (name, count) = named(name)?;
     if words.len() != count {
@@ -160,6 +166,9 @@ fn call(name: &str, words: &[&str]) -> Option<Call> {
     }
     let number = |i: usize| words[i].parse::<u32>().ok();
     let bytes = |i: usize| bytes(words[i]);
+    if name.group() == Group::Conversions {
+        return Some(Call::conversion(name, number(0)?, number(1)?));
+    }
     let call = Call::new(name, number(0)?, number(1)?);
     Some(match name {
         Name::NextFile => call.with_number(number(2)?),

@@ -2,6 +2,7 @@
 #![allow(dead_code)]
 
 pub mod directories;
+pub mod low_bits;
 
 use reference::*;
 
@@ -46,6 +47,18 @@ pub fn pair(image: &[u8], b: u32, at: usize) -> u32 {
 pub fn set_pair(image: &mut [u8], b: u32, at: usize, value: u32) {
     set_word(image, b, at, value as u16);
     set_word(image, b, at + 1, (value >> 16) as u16);
+}
+
+/// The image with these words changed; a pair is two words.
+pub fn with(image: &[u8], words: &[(u32, usize, u16)], pairs: &[(u32, usize, u32)]) -> Vec<u8> {
+    let mut image = image.to_vec();
+    for &(b, at, value) in words {
+        set_word(&mut image, b, at, value);
+    }
+    for &(b, at, value) in pairs {
+        set_pair(&mut image, b, at, value);
+    }
+    image
 }
 
 pub fn blocks(plan: &Plan) -> Vec<u32> {

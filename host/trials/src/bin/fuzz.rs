@@ -14,6 +14,7 @@ use trials::damage::damage;
 use trials::draw::{self, candidates};
 use trials::guard::{Guarded, Side};
 use trials::images::{set_pair, shuffled, some_lengths, Place, DATA_WORD};
+use trials::low_bits;
 use trials::trees::{some_tree, Planted};
 
 const RECORD: usize = 528;
@@ -21,12 +22,13 @@ const MOST_RECORDS: usize = 420;
 const CALLS: u32 = 30;
 
 /// Mostly a sound partition with some damage, at times bytes of no meaning under a good partition block. One in four has
-/// directories.
+/// directories, one in three reserved bits in every LDA.
 fn some_image(rng: &mut Rng) -> Planted {
     let mut planted = match rng.below(4) {
         0 => some_tree(rng),
         _ => some_files(rng),
     };
+    planted.image = low_bits::perhaps(planted.image, &planted.place, rng);
     let Planted { place, ref mut image, .. } = planted;
     for _ in 0..rng.below(4) {
         damage(image, &place, rng);
