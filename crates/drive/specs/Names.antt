@@ -53,11 +53,11 @@ module _ (d : ℕ) where
   module _ (old b : ℕ) where
     pub address-kept : isLda d old b ≡ true → address d old b ≡ old
     unfolding address
-    address-kept h = ap (λ (t : Bool). pick t old (lda d b)) h
+    address-kept h = rw (h)
 
     pub address-new : isLda d old b ≡ false → address d old b ≡ lda d b
     unfolding address
-    address-new h = ap (λ (t : Bool). pick t old (lda d b)) h
+    address-new h = rw (h)
 
     -- what holds of the old address where it names b, and of b's own, holds of it
     either : (P : ℕ → Type 0) → (isLda d old b ≡ true → P old) → P (lda d b) → P (address d old b)

@@ -96,7 +96,7 @@ fn tail_good(img: &[u8], n: usize, k: usize, q: usize) -> bool
 {
     let used = inspect::entries_of(n, k);
     for i in used..128 {
-        if image::pair(img, q, SLOTS + 2 * i) != 0 {
+        if 0 < image::pair(img, q, SLOTS + 2 * i) {
             return false;
         }
     }

@@ -16,10 +16,10 @@ loop-holds : tie.Need-loop-holds Inv-loop μ-loop
 loop-holds c = tail-starts (c .before .before .pre .2) (c .entries-of .ensures .0) (c .entries-of .ensures .1)
 
 returns : tie.Need-returns Inv-loop μ-loop
-returns c = tail-fails (c .before .before .before .loop .inv) (omega arith) (c .before .pair .ensures .0) (c .if1 .taken)
+returns c = tail-fails (c .before .before .before .loop .inv) (omega arith) (c .before .pair .ensures .0) (λ z. omega (arith, c .if1 .taken))
 
 loop-again : tie.Need-loop-again Inv-loop μ-loop
-loop-again c = tail-next (c .before .before .before .loop .inv) (omega arith) (c .before .pair .ensures .0) (c .if1 .left)
+loop-again c = tail-next (c .before .before .before .loop .inv) (omega arith) (c .before .pair .ensures .0) (omega (arith, c .if1 .left))
 
 returns-2 : tie.Need-returns-2 Inv-loop μ-loop
 returns-2 c = tail-end (c .before .loop .inv) (omega arith)
