@@ -209,6 +209,11 @@ pub fn on_library_lent(call: &Call, lent: Lent) -> Answer {
         Group::Reading => reading!(raw, call, lent),
         Group::Changing => changing!(raw, call, lent),
     };
+    same_fields(answer)
+}
+
+/// The library's answer as one that can be compared with the reference's.
+pub fn same_fields(answer: raw::Answer) -> Answer {
     let raw::Answer { outcome, number, block, made, a, b, c } = answer;
     Answer { outcome, number, block, made, a, b, c }
 }

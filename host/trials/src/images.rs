@@ -124,7 +124,7 @@ pub fn shuffled(place: &Place, lengths: &[u32], rng: &mut Rng) -> Vec<u8> {
 }
 
 /// A random order of the blocks after s: block b goes to `order[b - s - 1]`.
-fn permutation(place: &Place, rng: &mut Rng) -> Vec<u32> {
+pub fn permutation(place: &Place, rng: &mut Rng) -> Vec<u32> {
     let mut order: Vec<u32> = (place.s + 1..=place.e).collect();
     for i in (1..order.len()).rev() {
         order.swap(i, rng.below(i as u32 + 1) as usize);

@@ -13,7 +13,10 @@ pub mod draw;
 pub mod guard;
 pub mod images;
 pub mod low_bits;
+#[allow(unsafe_code)]
+pub mod plain;
 pub mod settings;
+pub mod shapes;
 pub mod sweep;
 pub mod tally;
 pub mod trees;
