@@ -1,6 +1,6 @@
 # Tapermoss: what a person builds and runs. `rt` (the Rattle toolchain) is expected on the PATH; whatever Debian
 # packages the rest needs, `make setup` installs, and every other target asks for it first. All that is built goes
-# under build/ (and target/, which is rt's own).
+# under build/ (and target/, which is rt's own). tools/machine is for machines that are not x86-64, and does nothing on others.
 
 # How long `make fuzz` runs.
 SECONDS ?= 60
