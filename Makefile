@@ -1,6 +1,6 @@
 # Tapermoss: what a person builds and runs. `rt` (the Rattle toolchain) is expected on the PATH; whatever Debian
 # packages the rest needs, `make setup` installs, and every other target asks for it first. All that is built goes
-# under build/ (and target/, which is rt's own).
+# under build/ (and target/, which is rt's own). tools/machine is for machines that are not x86-64, and does nothing on others.
 
 # How long `make fuzz` runs.
 SECONDS ?= 60
@@ -29,14 +29,14 @@ build/libperq.a: crates.txt $(shell find crates 2>/dev/null)
 	@tools/library $@
 
 tool: library
-	@cd host && cargo build --offline --quiet --release -p tapermoss
+	@. tools/machine && cd host && cargo build --offline --quiet --release -p tapermoss
 
 # The worked examples as a table, the walk-through, and the same jobs on images that the reference made.
 run: tool
 	@build/host/release/tapermoss tour
 	@echo
 	@tools/walk build/host/release/tapermoss build/walk
-	@cd host && cargo build --offline --quiet --release -p trials --bin batch_data
+	@. tools/machine && cd host && cargo build --offline --quiet --release -p trials --bin batch_data
 	@tools/reference build/host/release/tapermoss build/host/release/batch_data build/reference
 	@printf '\nThe tool is build/host/release/tapermoss.\n'
 
@@ -44,13 +44,13 @@ run: tool
 python: library build/libperq.so
 
 build/libperq.so: build/libperq.a tools/shared
-	@tools/shared $< $@
+	@. tools/machine && tools/shared $< $@
 
 test: setup
-	@tools/gate
+	@. tools/machine && tools/gate
 
 bench: library
-	@tools/bench
+	@. tools/machine && tools/bench
 
 fuzz: library
 	@tools/fuzz $(SECONDS)
