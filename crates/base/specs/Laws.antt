@@ -6,7 +6,8 @@ use lib.ListN.{getD}
 use mathlib.Core.Bool.{Bool, true, false, _&&_}
 use Prim.Native.Nat.{ℕ, zero, suc, _<_}
 use native.Mathlib.Nat.{le-refl, le-trans, le-suc, not-suc-le-zero, eq-or-lt-of-le, le-of-suc-le-suc}
-use borrow.Author.Tests.{eqb-true}
+use lib.Dec.{eqb}
+use borrow.Author.Tests.{eqb-true, eqb-false, eq-eqb, ne-eqb}
 use Rattle.base.specs.Tests.{pick, both, every, all, sameRow, sameTable}
 
 pub and-left : (a b : Bool) → (a && b) ≡ true → a ≡ true
@@ -39,6 +40,14 @@ pub all-same : (k : ℕ) (P Q : ℕ → Bool) → ((i : ℕ) → i < k → P i �
 unfolding all
 all-same zero P Q h = refl
 all-same (suc k) P Q h = ap₂ _&&_ (h k (le-refl (suc k))) (all-same k P Q (λ i l. h i (le-trans l (le-suc k))))
+
+-- two numbers compared either way
+pub eqb-swap : (a b : ℕ) → eqb a b ≡ eqb b a
+eqb-swap a b = go (eqb a b) refl
+  where
+    go : (t : Bool) → eqb a b ≡ t → t ≡ eqb b a
+    go true q = sym (eq-eqb b a (sym (eqb-true a b q)))
+    go false q = sym (ne-eqb b a (λ e. eqb-false a b q (sym e)))
 
 -- a choice, branch by branch
 pub pick-same : {A : Type 0} (t : Bool) {a a′ b b′ : A} → (t ≡ true → a ≡ a′) → (t ≡ false → b ≡ b′) → pick t a b ≡ pick t a′ b′

@@ -15,10 +15,10 @@ use Rattle.drive.specs.Address.{blocks, pda, pdaBlock, lda, ldaBlock, fi
 
 module _ (k : Code) (g : Good k) where
   -- the number of a sector lies below a track's unit, that of a track below a cylinder's
-  in-track : (x : ℕ) → x % k .sectors * k .step + k .first < k .track
+  pub in-track : (x : ℕ) → x % k .sectors * k .step + k .first < k .track
   in-track x = lt-of-lt-of-le (digits-lt (mod-lt x (g .some-sector)) (g .first-below)) (g .sectors-fit)
 
-  in-cylinder : (x : ℕ) → x / k .sectors % k .tracks * k .track + (x % k .sectors * k .step + k .first) < k .cylinder
+  pub in-cylinder : (x : ℕ) → x / k .sectors % k .tracks * k .track + (x % k .sectors * k .step + k .first) < k .cylinder
   in-cylinder x = lt-of-lt-of-le (digits-lt (mod-lt (x / k .sectors) (g .some-track)) (in-track x)) (g .tracks-fit)
 
   -- the place guessed from a place's number is that place
@@ -136,6 +136,10 @@ hard F x (suc (suc (suc d))) h a b c = absurd (omega arith)
 pub soft : {A : Type 0} (F : Row → A) (d : ℕ) → d ≢ 0 → d ≢ 1 → d ≢ 2 → onDrive F d ≡ F floppy
 unfolding onDrive
 soft F d a b c = simp (ne-eqb d 0 a, ne-eqb d 1 b, ne-eqb d 2 c)
+
+pub soft-row : (d : ℕ) → 2 < d → rowOf d ≡ floppy
+unfolding rowOf
+soft-row d h = soft (λ g. g) d (λ q. omega arith) (λ q. omega arith) (λ q. omega arith)
 
 module _ (d b : ℕ) where
   pub hard-lda : d < 3 → lda d b ≡ (b + 12582912) * 256

@@ -6,3 +6,4 @@ pub mod Laws
 pub mod Wording
 pub mod Fits
 pub mod Names
+pub mod Ranges

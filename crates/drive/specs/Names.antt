@@ -1,7 +1,7 @@
 -- What names a block by its LDA, whatever the reserved bits: the address test, and the address that is written over another one.
 use mathlib.Core.Path.{_≡_, refl, sym, ap, _∙_, subst}
 use mathlib.Core.Bool.{Bool, true, false}
-use Prim.Native.Nat.{ℕ, _+_, _-_, _*_, _/_, _<_}
+use Prim.Native.Nat.{ℕ, _+_, _-_, _*_, _/_, _%_, _<_}
 use native.Mathlib.Omega.{arith}
 use lib.Dec.{ltb}
 use borrow.Author.Tests.{eqb-true, eq-eqb}
@@ -14,7 +14,7 @@ use Rattle.drive.specs.Rows.{ldaCode}
 use Rattle.drive.specs.Address.{blocks, lda, ldaBlock, cleaned, isLda, address}
 use Rattle.drive.specs.Answers.{converted, lbnToLda, ldaToLbn}
 use Rattle.drive.specs.Fits.{lda-small}
-use Rattle.drive.specs.Laws.{rowOf, on-row, fine}
+use Rattle.drive.specs.Laws.{rowOf, each-row, on-row, fine}
 
 module _ (d : ℕ) where
   -- the LDAs of a drive are 256 apart, and their low eight bits are not looked at
@@ -33,6 +33,18 @@ module _ (d : ℕ) where
 
   pub lda-block : (x b : ℕ) → isLda d x b ≡ true → ldaBlock d x ≡ b
   lda-block x b h = omega (arith, lda-cleaned x b h, lda-is b, block-is x)
+
+  -- and what is decoded as a block above another is that block's: its address need not be worked out
+  pub lda-here : (x : ℕ) {s : ℕ} → s < ldaBlock d x → isLda d x (ldaBlock d x) ≡ true
+  unfolding isLda
+  lda-here x h = eq-eqb (cleaned x) (lda d (ldaBlock d x)) (omega (arith, h, lda-is (ldaBlock d x), block-is x))
+
+  -- which its bits 8 to 28 are on every drive
+  lda-tag : rowOf d .lda % 2097152 ≡ 0
+  lda-tag = each-row (λ g. g .lda % 2097152 ≡ 0) d (omega arith) (omega arith) (omega arith) (omega arith)
+
+  pub lda-bits : (x : ℕ) {s : ℕ} → s < ldaBlock d x → ldaBlock d x < 2097152 → x / 256 % 2097152 ≡ ldaBlock d x
+  lda-bits x h l = omega (arith, h, l, lda-tag, block-is x)
 
   pub lda-some : (x b : ℕ) → isLda d x b ≡ true → 0 < x
   lda-some x b h = omega (arith, lda-cleaned x b h, lda-is b, fine d .lda-off)

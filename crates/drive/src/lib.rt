@@ -1,11 +1,17 @@
 // Addresses of blocks on the four drives. An address of two words is one number, low word + 65536 * high word.
 ghost use mathlib.Core.Path.{_≡_};
-ghost use Prim.Native.Nat.{_-_, _*_, _<_, _≤_};
+ghost use Prim.Native.Nat.{_-_, _*_, _/_, _%_, _<_, _≤_};
+ghost use Rattle.drive.specs.Code.{placeNumber};
+ghost use Rattle.drive.specs.Rows.{pdaCode, micropolis};
 ghost use Rattle.drive.specs.Address.{blocks, pda, pdaBlock, orNil, lda, ldaBlock, isLda, address, fileId, fileIdBlock, fileIds};
 ghost use Rattle.drive.specs.Answers.{converted, lbnToPda, pdaToLbn, lbnToLda, ldaToLbn, lbnToFileId, fileIdToLbn};
-ghost use lib.Dec.{ltb};
+ghost use lib.Dec.{ltb, eqb};
 ghost use Rattle.base.specs.Tests.{both};
 use base::Refusal;
+use place::boot;
+use place::place;
+
+mod place; // place.rt: the place that a physical address names
 
 // What a conversion answers.
 pub enum Converted {
@@ -37,6 +43,17 @@ fn file_ids(drive: usize) -> usize
     }
 }
 
+// The physical address of place x of the Micropolis: c is the cylinder, and t counts the tracks of all cylinders. Track and sector are
+// what multiplying back leaves, so that there are two divisions.
+fn micropolis(x: usize) -> usize
+    requires { ⌜ x < 4294967344 ⌝ }
+    ensures { λ r. ⌜ r ≡ placeNumber (pdaCode micropolis) x ⌝ }
+{
+    let t = x / 24;
+    let c = t / 5;
+    c * 65536 + (t - 5 * c) * 256 + (x - 24 * t)
+}
+
 // The physical address of block b. Each drive's numbers stand here as constants, so that no division is by a variable.
 pub fn pda(drive: usize, b: usize) -> usize
     requires { ⌜ b < 4294967296 ⌝ }
@@ -45,7 +62,7 @@ pub fn pda(drive: usize, b: usize) -> usize
     match drive {
         0 => (b + 30) / 30 / 4 * 256 + (b + 30) / 30 % 4 * 32 + (b + 30) % 30,
         1 => (b + 30) / 30 / 8 * 256 + (b + 30) / 30 % 8 * 32 + (b + 30) % 30,
-        2 => (b + 48) / 24 / 5 * 65536 + (b + 48) / 24 % 5 * 256 + (b + 48) % 24,
+        2 => micropolis(b + 48),
         _ => (b + 30) / 6 * 65536 + (b + 30) % 6 * 4 + 3,
     }
 }
@@ -78,6 +95,14 @@ pub fn pda_block(drive: usize, x: usize) -> usize
     }
 }
 
+// Whether x is the physical address of block b: it is asked which place x names, and b is not numbered.
+pub fn is_pda(drive: usize, x: usize, b: usize) -> bool
+    requires { ⌜ (x < 4294967296) × (b < 4294967296) ⌝ }
+    ensures { λ r. ⌜ r ≡ eqb x (pda drive b) ⌝ }
+{
+    place(drive, x) == b + boot(drive)
+}
+
 // The logical address of block b.
 pub fn lda(drive: usize, b: usize) -> usize
     requires { ⌜ b < 4294967296 ⌝ }
@@ -99,6 +124,13 @@ pub fn lda_block(drive: usize, x: usize) -> usize
     } else {
         less(x / 256, 14680064)
     }
+}
+
+// The block whose logical address x is, where it is known to be that of one: what is above its bits is the drive's.
+pub fn known_lda(x: usize) -> usize
+    ensures { λ r. ⌜ r ≡ x / 256 % 2097152 ⌝ }
+{
+    x / 256 % 2097152
 }
 
 // Whether x decodes to block b as a logical address, whatever its reserved bits.
@@ -162,9 +194,10 @@ pub fn pda_to_lbn(drive: u32, address: u32) -> Converted
     ensures { λ r. ⌜ r ≡ pdaToLbn drive address ⌝ }
 {
     let d = wide(drive);
-    let x = wide(address);
-    let b = pda_block(d, x);
-    answer(d, meets(b, blocks(d), pda(d, b) == x), b)
+    let p = place(d, wide(address));
+    let o = boot(d);
+    let b = less(p, o);
+    answer(d, meets(b, blocks(d), o <= p), b)
 }
 
 // LBN to logical address.

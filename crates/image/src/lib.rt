@@ -36,16 +36,12 @@ pub fn pair(img: &[u8], b: usize, w: usize) -> usize
     word(img, b, w) + 65536 * word(img, b, w + 1)
 }
 
-// A word as the signed number that it is.
+// A word as the signed number that it is, without a branch: half of all words up, round to the others, and down again.
 pub fn signed(w: usize) -> i32
     requires { ⌜ w < 65536 ⌝ }
     ensures { λ r. ⌜ r ≡ signed w ⌝ }
 {
-    if w < 32768 {
-        w as i32
-    } else {
-        (w as i32) - 65536
-    }
+    ((w + 32768) % 65536) as i32 - 32768
 }
 
 // Word w of block b as the signed number that it is.

@@ -10,6 +10,7 @@ use lib.ListN.{length}
 use borrow.Author.Tests.{ltb-true, eqb-true, eqb-false}
 use Rattle.base.specs.Tests.{every}
 use Rattle.drive.specs.Address.{pda, ldaBlock, isLda}
+use Rattle.drive.specs.Names.{lda-bits}
 use Rattle.image.specs.View.{View, pair}
 use Rattle.image.specs.Image.{view}
 use Rattle.volume.specs.Words.{dataOffset, relativeAt, slotAt, directAt, indirectAt}
@@ -90,6 +91,13 @@ module _ {π : Partition} {l : List ℕ} {f : ℕ} (o : Readable π l f) where
           let m = asked-named π (view l) f (o .short) (o .good) k n (here-of π (view l) f k n p .asked) in
           inside-of π (spot π (view l) f k) (named-member π (view l) f k m .ins) .1
 
+  -- and so its bits tell it
+  pub read-bits : (k x : ℕ) → present π (view l) f k ≡ true → k ≢ home → spot π (view l) f k ≡ ldaBlock (π .drive) x → x / 256 % 2097152 ≡ spot π (view l) f k
+  read-bits k x p n q =
+      let m = asked-named π (view l) f (o .short) (o .good) k n (here-of π (view l) f k n p .asked) in
+      let i = inside-of π (spot π (view l) f k) (named-member π (view l) f k m .ins) in
+      lda-bits (π .drive) x (rw q at (i .0)) (omega (arith, i .1, q, o .lies .few)) ∙ sym q
+
   pub read-is : (b k : ℕ) → present π (view l) f k ≡ true → b ≡ spot π (view l) f k → (b ≡ spot π (view l) f k) × (b ≤ π .e)
   read-is b k p q = (q, rw q (read-in k p))
 
@@ -110,12 +118,15 @@ module _ {π : Partition} {l : List ℕ} {f : ℕ} (o : Readable π l f) where
       at (inl x) = let s = o .short in let h = x .1 in (omega (arith, a, first-pointer k (omega arith)), omega arith)
       at (inr x) = absurd (omega (arith, x .0))
 
-  pub read-holder : (k : ℕ) → present π (view l) f k ≡ true → 355 < k → spot π (view l) f (288 - (k - 356) / 128) ≤ π .e
-  read-holder k p m =
+  pub holder-there : (k : ℕ) → present π (view l) f k ≡ true → 355 < k → present π (view l) f (288 - (k - 356) / 128) ≡ true
+  holder-there k p m =
       let z : 292 + (k - 292) ≡ k = omega arith in
       let y : 288 - (k - 292 - 64) / 128 ≡ 288 - (k - 356) / 128 = omega arith in
       let u : up k ≡ 288 - (k - 356) / 128 = ap up (sym z) ∙ row-data (k - 292) (omega arith) .0 ∙ y in
-      subst (λ (x : ℕ). spot π (view l) f x ≤ π .e) u (read-in (up k) (here-of π (view l) f k (λ z. omega arith) p .held))
+      subst (λ (x : ℕ). present π (view l) f x ≡ true) u (here-of π (view l) f k (λ z. omega arith) p .held)
+
+  pub read-holder : (k : ℕ) → present π (view l) f k ≡ true → 355 < k → spot π (view l) f (288 - (k - 356) / 128) ≤ π .e
+  read-holder k p m = read-in (288 - (k - 356) / 128) (holder-there k p m)
 
   -- the last and the first of the links
   pub read-last : (n : ℕ) → n ≡ len (view l) f → present π (view l) f (home + n) ≡ true

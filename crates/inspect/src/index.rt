@@ -39,14 +39,12 @@ fn names(img: &[u8], p: Partition, own: usize, x: usize, n: i32) -> bool
     requires { ⌜ (Lies p (now img)) × (SFits w16 n) ⌝ }
     ensures { λ r. ⌜ r ≡ names p (view (now (img .entry))) own x (wordOf n) ⌝ }
 {
+    // A number that is decoded as a block above s is that block's LDA.
     let b = drive::lda_block(p.drive, x);
     if b <= p.s {
         return false;
     }
     if p.e < b {
-        return false;
-    }
-    if !drive::is_lda(p.drive, x, b) {
         return false;
     }
     if image::pair(img, b, SERIAL) != own {
@@ -138,18 +136,18 @@ pub fn index_good(img: &[u8], p: Partition, f: usize, n: usize) -> bool
     good
 }
 
-// The block of key k of f, whose index is good.
+// The block of key k of f, whose index is good: an entry that is asked for is the LDA of a block.
 pub fn at_key(img: &[u8], p: Partition, f: usize, k: usize) -> usize
     requires { ⌜ (Readable p (now img) f) × (present p (view (now img)) f k ≡ true) ⌝ }
     ensures { λ b. ⌜ (b ≡ spot p (view (now (img .entry))) f k) × (b ≤ p .e) ⌝ }
 {
     // Data blocks beyond the direct entries first: most keys are theirs.
     if 355 < k {
-        let q = ptr(img, p, f, (k - 356) / 128);
-        return drive::lda_block(p.drive, image::pair(img, q, SLOTS + 2 * ((k - 356) % 128)));
+        let q = drive::known_lda(image::pair(img, f, INDIRECT + 2 * ((k - 356) / 128)));
+        return drive::known_lda(image::pair(img, q, SLOTS + 2 * ((k - 356) % 128)));
     }
     if keys::HOME < k {
-        return drive::lda_block(p.drive, image::pair(img, f, DIRECT + 2 * (k - keys::FIRST)));
+        return drive::known_lda(image::pair(img, f, DIRECT + 2 * (k - keys::FIRST)));
     }
     if k == keys::HOME {
         return f;

@@ -43,10 +43,10 @@ pub fn next_key(n: usize, k: usize) -> usize
     requires { ⌜ (n ≤ 4160) × (k < 65536) ⌝ }
     ensures { λ r. ⌜ r ≡ nextKey n k ⌝ }
 {
-    if k == POINTER {
-        return HOME;
+    if HOME + n <= k {
+        return 0;
     }
-    if k < HOME + n { k + 1 } else { 0 }
+    if k == POINTER { HOME } else { k + 1 }
 }
 
 // The key before k in a file with n blocks, or 0.

@@ -110,11 +110,11 @@ pub fn candidate(img: &[u8], p: Partition, f: usize) -> bool
     if p.e < f {
         return false;
     }
-    // Before the serial, whose address is a division: most blocks are no FIB.
+    // Before the serial, whose parts must be asked: most blocks are no FIB.
     if !numbers::has_number(img, f, FIB) {
         return false;
     }
-    image::pair(img, f, SERIAL) == drive::pda(p.drive, f)
+    drive::is_pda(p.drive, image::pair(img, f, SERIAL), f)
 }
 
 // Whether f is a file.

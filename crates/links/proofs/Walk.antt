@@ -23,7 +23,7 @@ use Rattle.volume.specs.Steps.{every-no, Passed, pass-next, pass-fails, pass-en
 use Rattle.inspect.specs.Parts.{Opened}
 use Rattle.inspect.proofs.Laws.{opened-few}
 use Rattle.links.proofs.Laws.{key-pos, link-nil, link-is}
-use Rattle.base.specs.Laws.{never}
+use Rattle.base.specs.Laws.{never, both-left}
 
 -- ---- the unused entries of a pointer block
 
@@ -169,15 +169,15 @@ module _ {π : Partition} {l : List ℕ} {f : ℕ} (o : Opened π l f) where
         go false q = q ∙ fails k (g .at .there) (sym is ∙ q)
         go true q = q ∙ sym (span-of (len (view l) f) (linkTest π (view l) f) (λ i a m. upto (sym is ∙ q) i (omega (arith, low-pos (len (view l) f) (opened-few o))) (λ n. absurd (n z))))
 
-    module _ (n : j ≢ 0) {c y : ℕ} (h : (c ≡ spot π (view l) f j) × (c ≤ π .e)) (q : y ≡ pda (π .drive) c) {r : Bool} (hr : r ≡ links (view l) b y before) where
+    module _ (n : j ≢ 0) {c : ℕ} (h : (c ≡ spot π (view l) f j) × (c ≤ π .e)) {r : Bool} (hr : r ≡ links (view l) b (pda (π .drive) c) before) where
       is : r ≡ linkTest π (view l) f k
-      is = test-is (link-is π (view l) f j n (h .0) q) hr
+      is = test-is (link-is π (view l) f j n (h .0) refl) hr
 
       pub link-fails : r ≡ false → false ≡ linked π (view l) f
       link-fails e = fails k (g .at .there) (sym is ∙ e)
 
-      pub link-next : r ≡ true → Linking π l f j own c y
-      link-next e = record {
+      pub link-next : r ≡ true → {y : ℕ} → y ≡ pair (view l) b nextAt → Linking π l f j own c y
+      link-next e q = record {
         passed = λ i a m. upto (sym is ∙ e) i a (λ _. m);
         there = next-there n;
         back =
@@ -185,5 +185,5 @@ module _ {π : Partition} {l : List ℕ} {f : ℕ} (o : Opened π l f) where
             ∙ ap (link π (view l) f) (sym (ap (below π (view l) f) (g .next) ∙ above-below π (view l) f (o .formed) k (g .at .there) (λ z. n (g .next ∙ z))));
         here = h .0;
         within = h .1;
-        address = q;
+        address = q ∙ eqb-true _ _ (both-left _ _ (sym hr ∙ e));
       }

@@ -6,6 +6,7 @@ ghost use Prim.Native.Nat.{_+_, _*_, _≤_, _<_};
 ghost use lib.ListN.{length};
 ghost use lib.Dec.{ltb, eqb};
 ghost use Rattle.base.specs.Tests.{both, all};
+ghost use Rattle.drive.specs.Address.{pda};
 ghost use Rattle.image.specs.View.{pair};
 ghost use Rattle.image.specs.Image.{view};
 ghost use Rattle.volume.specs.Words.{relativeAt, nextAt, previousAt, slotAt};
@@ -39,7 +40,7 @@ pub fn owned(img: &[u8], p: Partition, b: usize) -> bool
     if !inspect::candidate(img, p, f) {
         return false;
     }
-    if x != drive::pda(p.drive, f) {
+    if !drive::is_pda(p.drive, x, f) {
         return false;
     }
     let n = inspect::len(img, f);
@@ -89,6 +90,18 @@ fn link_good(img: &[u8], b: usize, next: usize, previous: usize) -> bool
     }
 }
 
+// Whether the next link of block b leads to block c, and its previous link is `before`.
+fn leads(img: &[u8], p: Partition, b: usize, c: usize, before: usize) -> bool
+    requires { ⌜ (528 * b + 528 ≤ length (now img)) × (c < 4294967296) ⌝ }
+    ensures { λ r. ⌜ r ≡ both (eqb (pair (view (now (img .entry))) b nextAt) (pda (p .drive) c)) (eqb (pair (view (now (img .entry))) b previousAt) before) ⌝ }
+{
+    if drive::is_pda(p.drive, image::pair(img, b, NEXT), c) {
+        image::pair(img, b, PREVIOUS) == before
+    } else {
+        false
+    }
+}
+
 // Whether each entry of pointer block k, which is block q, is asked for by n blocks, or nil.
 fn tail_good(img: &[u8], n: usize, k: usize, q: usize) -> bool
     requires { ⌜ (528 * q + 528 ≤ length (now img)) × (n ≤ 4160) × (k ≤ 288) ⌝ }
@@ -104,7 +117,7 @@ fn tail_good(img: &[u8], n: usize, k: usize, q: usize) -> bool
 }
 
 // Whether the blocks of f are linked in order, from key to key. At key k the walk has its block b, the address of b, and that of the
-// block before.
+// block before: a link that leads to a block is the block's address.
 pub fn linked(img: &[u8], p: Partition, f: usize) -> bool
     requires { ⌜ Opened p (now img) f ⌝ }
     ensures { λ r. ⌜ r ≡ linked p (view (now (img .entry))) f ⌝ }
@@ -125,12 +138,11 @@ pub fn linked(img: &[u8], p: Partition, f: usize) -> bool
             return link_good(img, b, 0, before);
         }
         let c = inspect::spot(img, p, f, j);
-        let next = drive::pda(p.drive, c);
-        if !link_good(img, b, next, before) {
+        if !leads(img, p, b, c, before) {
             return false;
         }
         before = own;
-        own = next;
+        own = image::pair(img, b, NEXT);
         b = c;
         k = j;
     }

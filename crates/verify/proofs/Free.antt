@@ -24,24 +24,25 @@ use Rattle.verify.specs.declared.Walk.{Walk}
 use Rattle.verify.specs.declared.Walk.the-variants.{Wrong, Free}
 use Rattle.frame.specs.Chain.{chain-end, chain-more}
 
--- the loop: n passed of at most m; w is the answer of the whole
-pub record Walking (π : Partition) (v : View) (m before b n : ℕ) (w : Walk) : Type 0 where
+-- the loop: n passed of at most m, at block b with the address `own`; w is the answer of the whole
+pub record Walking (π : Partition) (v : View) (m before own b n : ℕ) (w : Walk) : Type 0 where
   pub left : walk π v (m - n) before b n ≡ w
   pub here : b ≤ π.e
-  pub back : before ≤ π.e
+  pub address : own ≡ pda π.drive b
 
-pub walk-starts : (π : Partition) (v : View) (b : ℕ) → b ≤ π.e → Walking π v (π.e - π.s) 0 b 0 (walk π v (π.e - π.s) 0 b 0)
-walk-starts π v b h = record { left = rw (sub-zero (π.e - π.s)); here = h; back = omega arith }
+pub walk-starts : (π : Partition) (v : View) {own : ℕ} (b : ℕ) → b ≤ π.e → own ≡ pda π.drive b → Walking π v (π.e - π.s) 0 own b 0 (walk π v (π.e - π.s) 0 b 0)
+walk-starts π v b h q = record { left = rw (sub-zero (π.e - π.s)); here = h; address = q }
 
-step-on-in : (π : Partition) (v : View) (before b c : ℕ) → stepAt π v before b ≡ On c → c ≤ π.e
+-- a step leads to a block of the partition, by its address
+step-on : (π : Partition) (v : View) (before b c : ℕ) → stepAt π v before b ≡ On c → (c ≤ π.e) × (pair v b nextAt ≡ pda π.drive c)
 unfolding stepAt onward both
-step-on-in π v before b c h = go (owned π v b) refl (eqb (pair v b previousAt) (orNil (π .drive) before)) refl (eqb x 0) refl (inside π (pdaBlock π.drive x)) refl (eqb (pda π.drive (pdaBlock π.drive x)) x) refl
+step-on π v before b c h = go (owned π v b) refl (eqb (pair v b previousAt) before) refl (eqb x 0) refl (inside π (pdaBlock π.drive x)) refl (eqb (pda π.drive (pdaBlock π.drive x)) x) refl
   where
     x : ℕ
     x = pair v b nextAt
 
-    go : (t : Bool) → owned π v b ≡ t → (u : Bool) → eqb (pair v b previousAt) (orNil (π .drive) before) ≡ u → (y : Bool) → eqb x 0 ≡ y
-        → (z : Bool) → inside π (pdaBlock π.drive x) ≡ z → (w : Bool) → eqb (pda π.drive (pdaBlock π.drive x)) x ≡ w → c ≤ π.e
+    go : (t : Bool) → owned π v b ≡ t → (u : Bool) → eqb (pair v b previousAt) before ≡ u → (y : Bool) → eqb x 0 ≡ y
+        → (z : Bool) → inside π (pdaBlock π.drive x) ≡ z → (w : Bool) → eqb (pda π.drive (pdaBlock π.drive x)) x ≡ w → (c ≤ π.e) × (x ≡ pda π.drive c)
     go true p u q y r z i w j = let k = rw (p, stepAt) at h in let z : _≡_ {A = ℕ} 0 1 = cc in absurd (omega arith)
     go false p false q y r z i w j = let k = rw (p, q, stepAt) at h in let z : _≡_ {A = ℕ} 0 1 = cc in absurd (omega arith)
     go false p true q true r z i w j = let k = rw (p, q, r, stepAt, onward) at h in let z : _≡_ {A = ℕ} 0 1 = cc in absurd (omega arith)
@@ -50,9 +51,9 @@ step-on-in π v before b c h = go (owned π v b) refl (eqb (pair v b previousAt)
     go false p true q false r true i true j =
         let k = rw (p, q, r, i, j, stepAt, onward, both) at h in
         let m : pdaBlock π.drive x ≡ c = cc in
-        omega (arith, inside-of π (pdaBlock π.drive x) i .1)
+        (omega (arith, inside-of π (pdaBlock π.drive x) i .1), sym (eqb-true _ _ j) ∙ ap (pda π.drive) m)
 
-module _ {π : Partition} {v : View} {m before b n : ℕ} {w : Walk} (g : Walking π v m before b n w) where
+module _ {π : Partition} {v : View} {m before own b n : ℕ} {w : Walk} (g : Walking π v m before own b n w) where
   pub walk-out : m ≤ n → Wrong b ≡ w
   unfolding walk
   walk-out l = rw (none l, walk) at (g .left)
@@ -65,9 +66,11 @@ module _ {π : Partition} {v : View} {m before b n : ℕ} {w : Walk} (g : Walkin
   unfolding walk
   walk-end l q t = rw (more l, ← q, t, walk) at (g .left)
 
-  pub walk-on : {r : Step} {c : ℕ} → n < m → r ≡ stepAt π v before b → r ≡ On c → Walking π v m b c (n + 1) w
+  pub walk-on : {r : Step} {c x : ℕ} → n < m → r ≡ stepAt π v before b → r ≡ On c → x ≡ pair v b nextAt → Walking π v m own x c (n + 1) w
   unfolding walk
-  walk-on {c = c} l q t = record { left = rw (more l, ← q, t, walk) at (g .left); here = step-on-in π v before b c (sym q ∙ t); back = g .here }
+  walk-on {c = c} l q t e =
+      let s = step-on π v before b c (sym q ∙ t) in
+      record { left = rw (← g .address) at (rw (more l, ← q, t, walk) at (g .left)); here = s .0; address = e ∙ s .1 }
 
 -- ---- what the walk's answer says of the chain
 
@@ -149,8 +152,8 @@ module _ (π : Partition) (v : View) where
   walk-step : (k before b n : ℕ) → inside π b ≡ true
       → (owned π v b ≡ false → eqb (pair v b previousAt) (orNil (π .drive) before) ≡ true → (pair v b nextAt ≡ 0 → ⊥)
       → both (inside π (pdaBlock π.drive (pair v b nextAt))) (eqb (pda π.drive (pdaBlock π.drive (pair v b nextAt))) (pair v b nextAt)) ≡ true
-      → Verdict before n (b ∷ chain π v k (pdaBlock π.drive (pair v b nextAt))) (walk π v k b (pdaBlock π.drive (pair v b nextAt)) (n + 1)))
-      → Verdict before n (chain π v (suc k) b) (walk π v (suc k) before b n)
+      → Verdict before n (b ∷ chain π v k (pdaBlock π.drive (pair v b nextAt))) (walk π v k (pda π.drive b) (pdaBlock π.drive (pair v b nextAt)) (n + 1)))
+      → Verdict before n (chain π v (suc k) b) (walk π v (suc k) (orNil (π .drive) before) b n)
   unfolding walk stepAt onward headOf lastOf
   walk-step k before b n ib rec = go (owned π v b) refl (eqb (pair v b previousAt) (orNil (π .drive) before)) refl (eqb x 0) refl (both (inside π c) (eqb (pda π.drive c) x)) refl
     where
@@ -161,14 +164,14 @@ module _ (π : Partition) (v : View) where
       c = pdaBlock π.drive x
 
       go : (t : Bool) → owned π v b ≡ t → (u : Bool) → eqb (pair v b previousAt) (orNil (π .drive) before) ≡ u → (y : Bool) → eqb x 0 ≡ y → (z : Bool) → both (inside π c) (eqb (pda π.drive c) x) ≡ z
-          → Verdict before n (chain π v (suc k) b) (walk π v (suc k) before b n)
+          → Verdict before n (chain π v (suc k) b) (walk π v (suc k) (orNil (π .drive) before) b n)
       go true p u q y r z i = rw (p, walk, stepAt) (wrong (chain-owned k before b p))
       go false p false q y r z i = rw (p, q, walk, stepAt) (wrong (λ g. true≢false (sym (chain-prev k before b g) ∙ q)))
       go false p true q true r z i = rw (p, q, chain-end π v k b (eqb-true _ _ r), walk, stepAt, onward, r) (fine {m = n + 1} {z = b} (fine-cons before b [] ib p q (eqb-true x 0 r) (fine-nil b)) (omega arith) refl)
       go false p true q false r false i = rw (p, q, chain-more π v k b (eqb-false _ _ r), walk, stepAt, onward, r, i) (wrong (λ g. true≢false (sym (fine-on k before b (eqb-false _ _ r) g) ∙ i)))
       go false p true q false r true i = rw (p, q, chain-more π v k b (eqb-false _ _ r), walk, stepAt, onward, r, i) (rec p q (eqb-false _ _ r) i)
 
-  pub walk-says : (k before b n : ℕ) → inside π b ≡ true → Verdict before n (chain π v (suc k) b) (walk π v (suc k) before b n)
+  pub walk-says : (k before b n : ℕ) → inside π b ≡ true → Verdict before n (chain π v (suc k) b) (walk π v (suc k) (orNil (π .drive) before) b n)
   unfolding walk chain headOf
   walk-says zero before b n ib = walk-step zero before b n ib (λ o p x i. wrong (λ g. x (fine-next before b [] g)))
-  walk-says (suc k) before b n ib = walk-step (suc k) before b n ib (λ o p x i. extend before b n k ib o p i (walk-says k b (pdaBlock π.drive (pair v b nextAt)) (n + 1) (both-left _ _ i)))
+  walk-says (suc k) before b n ib = walk-step (suc k) before b n ib (λ o p x i. extend before b n k ib o p i (rw (or-pda π b ib) at (walk-says k b (pdaBlock π.drive (pair v b nextAt)) (n + 1) (both-left _ _ i))))

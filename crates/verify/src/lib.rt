@@ -62,35 +62,37 @@ fn onward(p: Partition, x: usize) -> Step
     if p.e < c {
         return Step::Bad;
     }
-    if drive::pda(p.drive, c) == x {
+    if drive::is_pda(p.drive, x, c) {
         Step::On(c)
     } else {
         Step::Bad
     }
 }
 
-// Where the chain goes from block b, which follows `before`.
+// Where the chain goes from block b, whose previous link should be `before`.
 fn step_at(img: &[u8], p: Partition, before: usize, b: usize) -> Step
-    requires { ⌜ (Lies p (now img)) × (b ≤ p .e) × (before ≤ p .e) × (Unmarred p (view (now img))) ⌝ }
+    requires { ⌜ (Lies p (now img)) × (b ≤ p .e) × (Unmarred p (view (now img))) ⌝ }
     ensures { λ r. ⌜ r ≡ stepAt p (view (now (img .entry))) before b ⌝ }
 {
     if links::owned(img, p, b) {
         return Step::Bad;
     }
-    if image::pair(img, b, PREVIOUS) == drive::or_nil(p.drive, before) {
+    if image::pair(img, b, PREVIOUS) == before {
         onward(p, image::pair(img, b, NEXT))
     } else {
         Step::Bad
     }
 }
 
-// The chain from `head` on: left with the block of the first wrong link, or at its end with the count.
+// The chain from `head` on: left with the block of the first wrong link, or at its end with the count. The walk has the address of b, and
+// that of the block before: the link by which it came to a block is the block's address, so that none is worked out on the way.
 fn walk_from(img: &[u8], p: Partition, head: usize) -> Walk
     requires { ⌜ (Lies p (now img)) × (head ≤ p .e) × (Unmarred p (view (now img))) ⌝ }
     ensures { λ r. ⌜ r ≡ walk p (view (now (img .entry))) (p .e - p .s) 0 head 0 ⌝ }
 {
     let most = p.e - p.s;
     let mut before: usize = 0;
+    let mut own = drive::pda(p.drive, head);
     let mut b = head;
     let mut n: usize = 0;
     loop {
@@ -106,7 +108,8 @@ fn walk_from(img: &[u8], p: Partition, head: usize) -> Walk
                 break Walk::Free(n + 1, b);
             }
             Step::On(c) => {
-                before = b;
+                before = own;
+                own = image::pair(img, b, NEXT);
                 b = c;
                 n += 1;
             }

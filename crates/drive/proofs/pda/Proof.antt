@@ -17,7 +17,7 @@ returns-2 c = rw (c .match .keys2) (omega arith)
 
 returns-3 : tie.Need-returns-3
 unfolding pda onDrive placeNumber
-returns-3 c = rw (c .match .keys3) (omega arith)
+returns-3 c = rw (c .before .match .keys3) (c .micropolis .ensures)
 
 returns-4 : tie.Need-returns-4
 unfolding pda placeNumber
@@ -42,12 +42,7 @@ pda-spec =
     (λ c. search needs)
     (λ c. search needs)
     (λ c. search needs)
-    (λ c. search needs)
-    (λ c. search needs)
-    (λ c. search needs)
-    (λ c. search needs)
-    (λ c. search needs)
-    (λ c. search needs)
+    (λ c κs. search needs)
     (λ c. search needs)
     (λ c. search needs)
     (λ c. search needs)

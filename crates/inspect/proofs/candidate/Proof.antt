@@ -21,7 +21,7 @@ returns-3 c = sym (every-no _ 2 (sym (c .before .has-number .ensures) ∙ not-tr
 
 returns-4 : tie.Need-returns-4
 unfolding candidate inside both every
-returns-4 c = rw (lt-ltb _ _ (c .before .before .before .before .before .before .if1 .left), le-leb _ _ (c .before .before .before .before .if2 .left), sym (c .before .before .before .has-number .ensures) ∙ not-false _ (c .before .before .if3 .left), c .before .pair .ensures .0, c .pda .ensures) (sym (and-true _))
+returns-4 c = c .is-pda .ensures ∙ rw (lt-ltb _ _ (c .before .before .before .before .before .before .if1 .left), le-leb _ _ (c .before .before .before .before .if2 .left), sym (c .before .before .before .has-number .ensures) ∙ not-false _ (c .before .before .if3 .left), c .before .pair .ensures .0) (sym (and-true _))
 
 pub candidate-spec : {M : Type 1} → statement M
 candidate-spec =

@@ -56,7 +56,7 @@ spot-requires-2 : tie.Need-spot-requires-2 Inv-loop μ-loop
 spot-requires-2 c κs = let o = c .before .before .before .before .before .before .before .before .before .pre in (o, next-there o (turn (c .before)) (c .if3 .left))
 
 returns-3 : tie.Need-returns-3 Inv-loop μ-loop
-returns-3 c = link-fails (c .before .before .before .before .before .before .before .before .before .before .before .before .before .pre) (turn (c .before .before .before .before .before)) (c .before .before .before .before .if3 .left) (c .before .before .before .spot2 .ensures) (c .before .before .pda2 .ensures) (c .before .link-good2 .ensures) (not-true _ (c .if4 .taken))
+returns-3 c = link-fails (c .before .before .before .before .before .before .before .before .before .before .before .before .pre) (turn (c .before .before .before .before)) (c .before .before .before .if3 .left) (c .before .before .spot2 .ensures) (c .before .leads .ensures) (not-true _ (c .if4 .taken))
 
 loop-less : tie.Need-loop-less Inv-loop μ-loop
 loop-less c =
@@ -66,7 +66,7 @@ loop-less c =
     omega (arith, next-more o g n, c .before .before .before .before .before .before .before .before .before .before .before .len .ensures .0, key-high o _ (next-there o g n))
 
 loop-again : tie.Need-loop-again Inv-loop μ-loop
-loop-again c = link-next (c .before .before .before .before .before .before .before .before .before .before .before .before .before .pre) (turn (c .before .before .before .before .before)) (c .before .before .before .before .if3 .left) (c .before .before .before .spot2 .ensures) (c .before .before .pda2 .ensures) (c .before .link-good2 .ensures) (not-false _ (c .if4 .left))
+loop-again c = link-next (c .before .before .before .before .before .before .before .before .before .before .before .before .before .pre) (turn (c .before .before .before .before .before)) (c .before .before .before .before .if3 .left) (c .before .before .before .spot2 .ensures) (c .before .before .leads .ensures) (not-false _ (c .before .if4 .left)) (c .pair .ensures .0)
 
 pub linked-spec : {M : Type 1} → statement M
 linked-spec =
@@ -86,7 +86,7 @@ linked-spec =
     returns-2
     spot-requires-2
     (λ c κs. search needs)
-    (λ c κs. search needs)
     returns-3
+    (λ c κs. search needs)
     loop-less
     loop-again)

@@ -1,10 +1,11 @@
-use mathlib.Core.Path.{refl}
+use mathlib.Core.Path.{sym, _∙_}
 use lib.Dec.{ltb, leb, eqb}
 use borrow.Author.Tests.{eq-eqb, ne-eqb, lt-ltb, le-ltb, le-leb, lt-leb}
 use Rattle.base.specs.Tests.{both}
+use Rattle.base.specs.Laws.{eqb-swap}
 use Rattle.drive.specs.Address.{pda}
 use Rattle.volume.specs.Files.{inside}
-use Rattle.volume.specs.Steps.{both-no, both-no-2, ne-of, eq-of}
+use Rattle.volume.specs.Steps.{both-no, both-no-2}
 use Rattle.verify.specs.Walks.{onward}
 use borrow.Author.Needs.{needs}
 use Rattle.verify.proofs.onward.Statement.{statement}
@@ -24,11 +25,11 @@ returns-3 c = rw (ne-eqb _ _ (c .before .before .before .before .before .if1 .le
 
 returns-4 : tie.Need-returns-4
 unfolding onward inside both
-returns-4 c = let z = c .before .before .before .before .before .before .pda-block .ensures .0 in rw (ne-eqb _ _ (c .before .before .before .before .before .before .before .if1 .left), lt-ltb _ _ (rw z at (c .before .before .before .before .if2 .left)), le-leb _ _ (rw z at (c .before .before .if3 .left)), eq-of (rw z at (c .before .pda .ensures)) refl (c .if4 .taken), onward, both, z)
+returns-4 c = let z = c .before .before .before .before .before .before .pda-block .ensures .0 in rw (ne-eqb _ _ (c .before .before .before .before .before .before .before .if1 .left), lt-ltb _ _ (rw z at (c .before .before .before .before .if2 .left)), le-leb _ _ (rw z at (c .before .before .if3 .left)), eqb-swap (pda _ _) _, ← z, sym (c .before .is-pda .ensures) ∙ c .if4 .taken, onward, both)
 
 returns-5 : tie.Need-returns-5
 unfolding onward inside
-returns-5 c = let z = c .before .before .before .before .before .before .pda-block .ensures .0 in rw (ne-eqb _ _ (c .before .before .before .before .before .before .before .if1 .left), both-no-2 (both (ltb _ _) (leb _ _)) _ (ne-of (rw z at (c .before .pda .ensures)) refl (c .if4 .left)), onward)
+returns-5 c = let z = c .before .before .before .before .before .before .pda-block .ensures .0 in rw (ne-eqb _ _ (c .before .before .before .before .before .before .before .if1 .left), both-no-2 (both (ltb _ _) (leb _ _)) _ (eqb-swap (pda _ _) _ ∙ rw z at (sym (c .before .is-pda .ensures) ∙ c .if4 .left)), onward)
 
 pub onward-spec : {M : Type 1} → statement M
 onward-spec =

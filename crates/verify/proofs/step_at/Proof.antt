@@ -1,4 +1,4 @@
-use mathlib.Core.Path.{sym, _∙_}
+use mathlib.Core.Path.{refl, sym, _∙_}
 use Rattle.image.specs.View.{pair}
 use Rattle.volume.specs.Files.{owned}
 use Rattle.volume.specs.Steps.{ne-of, eq-of}
@@ -13,11 +13,11 @@ returns c = rw (sym (c .before .owned .ensures) ∙ c .if1 .taken, stepAt)
 
 returns-2 : tie.Need-returns-2
 unfolding stepAt
-returns-2 c = rw (sym (c .before .before .before .before .before .before .owned .ensures) ∙ c .before .before .before .before .before .if1 .left, eq-of (c .before .before .before .before .pair .ensures .0) (c .before .before .before .or-nil .ensures .0) (c .before .before .if2 .taken), stepAt, ← c .before .pair2 .ensures .0) (c .onward .ensures)
+returns-2 c = rw (sym (c .before .before .before .before .before .owned .ensures) ∙ c .before .before .before .before .if1 .left, eq-of (c .before .before .before .pair .ensures .0) refl (c .before .before .if2 .taken), stepAt, ← c .before .pair2 .ensures .0) (c .onward .ensures)
 
 returns-3 : tie.Need-returns-3
 unfolding stepAt
-returns-3 c = rw (sym (c .before .before .before .before .owned .ensures) ∙ c .before .before .before .if1 .left, ne-of (c .before .before .pair .ensures .0) (c .before .or-nil .ensures .0) (c .if2 .left), stepAt)
+returns-3 c = rw (sym (c .before .before .before .owned .ensures) ∙ c .before .before .if1 .left, ne-of (c .before .pair .ensures .0) refl (c .if2 .left), stepAt)
 
 pub step-at-spec : {M : Type 1} → statement M
 step-at-spec =
@@ -25,7 +25,6 @@ step-at-spec =
     (tie.spec
     (λ c κs. search needs)
     returns
-    (λ c κs. search needs)
     (λ c κs. search needs)
     (λ c κs. search needs)
     (λ c κs. search needs)

@@ -1,6 +1,7 @@
 use mathlib.Core.Path.{refl, sym, _∙_}
-use borrow.Author.Tests.{lt-ltb, le-ltb, le-leb, lt-leb, not-true, not-false}
+use borrow.Author.Tests.{lt-ltb, le-ltb, le-leb, lt-leb}
 use Rattle.base.specs.Tests.{both, every}
+use Rattle.drive.specs.Names.{lda-here}
 use Rattle.volume.specs.Files.{inside}
 use Rattle.volume.specs.Steps.{every-no, both-no, both-no-2, ne-of, eq-of, and-true}
 use Rattle.inspect.specs.Form.{names}
@@ -19,15 +20,14 @@ returns-2 c = sym (every-no _ 1 (both-no-2 _ _ (lt-leb _ _ (rw (c .before .befor
 
 returns-3 : tie.Need-returns-3
 unfolding names
-returns-3 c = sym (every-no _ 0 (sym (rw (c .before .before .before .before .before .before .lda-block .ensures .0) at (c .before .is-lda .ensures)) ∙ not-true _ (c .if3 .taken)))
+returns-3 c = sym (every-no _ 2 (ne-of (rw (c .before .before .before .before .before .before .lda-block .ensures .0) at (c .before .pair .ensures .0)) refl (c .if3 .taken)))
 
 returns-4 : tie.Need-returns-4
-unfolding names
-returns-4 c = sym (every-no _ 2 (ne-of (rw (c .before .before .before .before .before .before .before .before .lda-block .ensures .0) at (c .before .pair .ensures .0)) refl (c .if4 .taken)))
-
-returns-5 : tie.Need-returns-5
 unfolding names inside both every
-returns-5 c = let z = c .before .before .before .before .before .before .before .before .before .lda-block .ensures .0 in rw (sym (rw z at (c .before .before .before .before .is-lda .ensures)) ∙ not-false _ (c .before .before .before .if3 .left), lt-ltb _ _ (rw z at (c .before .before .before .before .before .before .before .if1 .left)), le-leb _ _ (rw z at (c .before .before .before .before .before .if2 .left)), eq-of (rw z at (c .before .before .pair .ensures .0)) refl (c .before .if4 .left)) (rw (self _ (c .before .before .before .before .before .before .before .before .before .before .before .pre .1)) at (c .has-number .ensures) ∙ rw z (sym (and-true _)))
+returns-4 c =
+    let z = c .before .before .before .before .before .before .before .lda-block .ensures .0 in
+    let s = rw z at (c .before .before .before .before .before .if1 .left) in
+    rw (lda-here _ _ s, lt-ltb _ _ s, le-leb _ _ (rw z at (c .before .before .before .if2 .left)), eq-of (rw z at (c .before .before .pair .ensures .0)) refl (c .before .if3 .left)) (rw (self _ (c .before .before .before .before .before .before .before .before .before .pre .1)) at (c .has-number .ensures) ∙ rw z (sym (and-true _)))
 
 pub names-spec : {M : Type 1} → statement M
 names-spec =
@@ -39,6 +39,4 @@ names-spec =
     (λ c κs. search needs)
     returns-3
     (λ c κs. search needs)
-    returns-4
-    (λ c κs. search needs)
-    returns-5)
+    returns-4)
