@@ -315,37 +315,38 @@ fn whoever_gets_the_lock_reads_the_file_that_has_the_name_by_then() {
     }
 }
 
-/// Starts the tool under this thread's watch; it waits at its first instruction.
-fn watched(arguments: &[&str]) -> Child {
+/// C for a library that the loader lays before libc: it stops the tool just before the first lock that it asks for.
+const STOPS_AT_LOCK: &str = "
+#define _GNU_SOURCE
+#include <signal.h>
+#include <sys/syscall.h>
+#include <unistd.h>
+int flock(int file, int operation) {
+    static int asked;
+    if (!asked++)
+        raise(SIGSTOP);
+    return (int)syscall(SYS_flock, file, operation);
+}
+";
+
+/// Starts the tool with that library, which is made in this folder.
+fn watched(folder: &Folder, arguments: &[&str]) -> Child {
+    let source = folder.put("stops.c", STOPS_AT_LOCK.as_bytes());
+    let library = folder.path("stops.so");
+    let compiler =
+        Command::new("gcc").args(["-shared", "-fPIC", &source, "-o"]).arg(&library).status();
+    assert!(compiler.expect("gcc runs").success());
     let mut command = tool(arguments);
-    let watch = || {
-        // SAFETY: the call touches no memory.
-        match unsafe { libc::ptrace(libc::PTRACE_TRACEME, 0, 0, 0) } {
-            0 => Ok(()),
-            _ => Err(io::Error::last_os_error()),
-        }
-    };
-    // SAFETY: only a system call is made between fork and exec.
-    unsafe { command.pre_exec(watch) };
+    command.env("LD_PRELOAD", &library);
     command.stdout(Stdio::piped()).stderr(Stdio::piped()).spawn().expect("the tool runs")
 }
 
-/// Lets a watched run go on until it asks for a lock; answers whether it ever does.
+/// Waits until a watched run asks for a lock; answers whether it ever does.
 fn goes_on_to_its_lock(run: &Child) -> bool {
     let (process, mut status) = (run.id() as i32, 0);
-    let is_lock = |call: String| call.split(' ').next() == Some(&libc::SYS_flock.to_string());
-    loop {
-        // SAFETY: the pointer is to a status that lives until the call ends, and the process is a child.
-        assert_eq!(unsafe { libc::waitpid(process, &mut status, 0) }, process);
-        if !libc::WIFSTOPPED(status) {
-            return false;
-        }
-        if fs::read_to_string(format!("/proc/{process}/syscall")).is_ok_and(is_lock) {
-            return true;
-        }
-        // SAFETY: the child is stopped, and the call touches no memory of this process.
-        assert_eq!(unsafe { libc::ptrace(libc::PTRACE_SYSCALL, process, 0, 0) }, 0);
-    }
+    // SAFETY: the pointer is to a status that lives until the call ends, and the process is a child.
+    assert_eq!(unsafe { libc::waitpid(process, &mut status, libc::WUNTRACED) }, process);
+    libc::WIFSTOPPED(status)
 }
 
 #[test]
@@ -354,11 +355,11 @@ fn whoever_locks_a_file_that_has_lost_its_name_asks_again() {
     let image = folder.put("disk", &sample());
     let mut other = scattered(FLOPPY, 432, 6, 431, &[1, 2], 9);
     folder.put("other", &other);
-    let run = watched(&["create", &image, "--in-place"]);
+    let run = watched(&folder, &["create", &image, "--in-place"]);
     assert!(goes_on_to_its_lock(&run), "it ended without a lock");
     fs::rename(folder.path("other"), folder.path("disk")).expect("a renaming");
-    // SAFETY: the child is stopped, and the call touches no memory of this process.
-    assert_eq!(unsafe { libc::ptrace(libc::PTRACE_DETACH, run.id() as i32, 0, 0) }, 0);
+    // SAFETY: the process is a child that has not been waited for, and the call touches no memory.
+    assert_eq!(unsafe { libc::kill(run.id() as i32, libc::SIGCONT) }, 0);
     let output = run.wait_with_output().expect("it ends");
     assert_eq!(output.status.code(), Some(0), "{output:?}");
     reference::create(&mut other, FLOPPY, 6, 0, ALL);
