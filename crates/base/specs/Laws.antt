@@ -68,6 +68,12 @@ pub both-of : {a b : Bool} → a ≡ true → b ≡ true → both a b ≡ true
 unfolding both
 both-of {a} {b} p q = ap₂ both p q
 
+-- a test beside one that passes
+pub both-true : (t : Bool) → both t true ≡ t
+unfolding both
+both-true true = refl
+both-true false = refl
+
 pub every-at : (l : List Bool) → every l ≡ true → (i : ℕ) → getD l i true ≡ true
 unfolding every
 every-at [] h i = refl

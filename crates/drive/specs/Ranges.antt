@@ -2,19 +2,19 @@
 -- divides by the units alone. Proved once over the numbers of a code to be the rule of specs/Code: guess, number again, compare.
 use mathlib.Core.Path.{_≡_, refl, sym, ap, _∙_}
 use mathlib.Core.Bool.{Bool, true, false}
-use Prim.Native.Nat.{ℕ, _+_, _-_, _*_, _/_, _%_, _<_}
+use Prim.Native.Nat.{ℕ, _+_, _-_, _*_, _/_, _%_, _<_, _≤_}
 use native.Mathlib.Nat.{mod-lt, div-add-mod'}
 use native.Mathlib.Omega.{arith}
 use lib.Arith.{digits-div, digits-mod}
 use lib.Dec.{ltb, leb, eqb}
-use borrow.Author.Tests.{ltb-true, lt-ltb, eqb-true, eq-eqb, eqb-false, ne-eqb, leb-true, leb-false, lt-leb}
+use borrow.Author.Tests.{ltb-true, lt-ltb, eqb-true, eq-eqb, eqb-false, ne-eqb, leb-true, leb-false}
 use Rattle.base.specs.Tests.{both, pick}
-use Rattle.base.specs.Laws.{both-left, both-right, both-of, eqb-swap}
-use Rattle.drive.specs.Code.{Code, Good, placeNumber, guess, encode, decode}
+use Rattle.base.specs.Laws.{both-left, both-right, both-of, both-true, eqb-swap}
+use Rattle.drive.specs.Code.{Code, Good, placeNumber, guess, encode}
 use Rattle.drive.specs.Rows.{Row, pdaCode}
 use Rattle.drive.specs.Address.{blocks, pda, pdaBlock}
 use Rattle.drive.specs.Answers.{converted, pdaToLbn}
-use Rattle.drive.specs.Laws.{rowOf, on-row, fine, guess-place, in-track, in-cylinder}
+use Rattle.drive.specs.Laws.{rowOf, on-row, fine, guess-place, in-track, in-cylinder, pda-back}
 
 -- the track that p has is one of a cylinder's, its sector one of a track's, and what is left is the first sector's number
 unfoldable pub inRange : Code → ℕ → Bool
@@ -98,12 +98,7 @@ pub record Parts (g : Row) (x c t s tracks sectors : ℕ) : Type 0 where
   pub tracks-are : tracks ≡ g .tracks
   pub sectors-are : sectors ≡ g .sectors
 
--- a test beside one that passes, and beside one that fails
-alone : (t : Bool) → both t true ≡ t
-unfolding both
-alone true = refl
-alone false = refl
-
+-- a test beside one that fails
 never : (t : Bool) → both t false ≡ false
 unfolding both
 never true = refl
@@ -113,7 +108,7 @@ module _ (g : Row) (x : ℕ) where
   pub place-by : {c t s tracks sectors : ℕ} → Parts g x c t s tracks sectors
       → pick (both (ltb t tracks) (ltb s sectors)) ((c * tracks + t) * sectors + s) 0 ≡ placeOf (pdaCode g) x
   unfolding inRange guess
-  place-by h = rw (h .cylinder-is, h .track-is, h .sector-is, h .tracks-are, h .sectors-are, eq-eqb _ _ (h .rest-is), alone (both (ltb _ _) (ltb _ _)))
+  place-by h = rw (h .cylinder-is, h .track-is, h .sector-is, h .tracks-are, h .sectors-are, eq-eqb _ _ (h .rest-is), both-true (both (ltb _ _) (ltb _ _)))
 
   pub place-none : (x % g .cylinder % g .track % g .step ≡ g .first → ⊥) → 0 ≡ placeOf (pdaCode g) x
   unfolding inRange
@@ -125,37 +120,50 @@ module _ (d x : ℕ) where
   unfolding pda
   pda-is b = place-is (pdaCode (rowOf d)) (fine d .pda-good) x b (fine d .pda-off) ∙ ap (eqb x) (sym (on-row (λ g. encode (pdaCode g) b) d))
 
--- whether g less o is a block that o leads back from
-less-back : (g o : ℕ) → eqb g (g - o + o) ≡ leb o g
-less-back g o = go (leb o g) refl
-  where
-    go : (t : Bool) → leb o g ≡ t → eqb g (g - o + o) ≡ t
-    go true q = eq-eqb g (g - o + o) (omega (arith, leb-true o g q))
-    go false q = ne-eqb g (g - o + o) (λ e. omega (arith, leb-false o g q, e))
+-- the block whose PDA x is; 0 where it is no block's, and for block 0, which is in no partition
+abbrev pub blockOf : ℕ → ℕ → ℕ
+blockOf d x = pick (eqb (pda d (pdaBlock d x)) x) (pdaBlock d x) 0
 
--- the conversion by the place that x names: it is not in the boot area, and its block is one of the drive's
-module _ (d x : ℕ) where
-  pub converted-is : (p o : ℕ) → p ≡ placeOf (pdaCode (rowOf d)) x → o ≡ rowOf d .boot
-      → converted d (both (ltb (p - o) (blocks d)) (leb o p)) (p - o) ≡ pdaToLbn d x
-  unfolding pdaToLbn pdaBlock
-  converted-is p o hp ho =
-      rw (hp, ho, on-row (λ g. decode (pdaCode g) x) d, eqb-swap (pda d _) x, ← pda-is d x (decode (pdaCode (rowOf d)) x)) (go (inRange (pdaCode (rowOf d)) x))
+-- p is the place that x names, and o places come before block 0
+module _ (d x : ℕ) {p o : ℕ} (hp : p ≡ placeOf (pdaCode (rowOf d)) x) (ho : o ≡ rowOf d .boot) where
+  pda-at : (b : ℕ) → eqb p (b + o) ≡ eqb (pda d b) x
+  pda-at b = rw (hp, ho) (pda-is d x b) ∙ eqb-swap x (pda d b)
+
+  -- in the boot area x is no block's PDA, and behind it that of the block there
+  none-there : p < o → eqb (pda d (pdaBlock d x)) x ≡ false
+  none-there h = sym (pda-at (pdaBlock d x)) ∙ ne-eqb p _ (λ e. omega (arith, h, e))
+
+  that-block : o ≤ p → pda d (p - o) ≡ x
+  that-block h = eqb-true _ _ (sym (pda-at (p - o)) ∙ eq-eqb p _ (omega (arith, h)))
+
+  block-there : o ≤ p → pdaBlock d x ≡ p - o
+  block-there h = ap (pdaBlock d) (sym (that-block h)) ∙ pda-back d (p - o)
+
+  one-there : o ≤ p → eqb (pda d (pdaBlock d x)) x ≡ true
+  one-there h = eq-eqb _ _ (ap (pda d) (block-there h) ∙ that-block h)
+
+  -- the conversion, and the block of a walk, by that place
+  pub boot-converts : p < o → converted d false 0 ≡ pdaToLbn d x
+  unfolding pdaToLbn
+  boot-converts h = rw (none-there h, never (ltb (pdaBlock d x) (blocks d)))
+
+  pub place-converts : o ≤ p → {n : ℕ} → n ≡ blocks d → converted d (ltb (p - o) n) (p - o) ≡ pdaToLbn d x
+  unfolding pdaToLbn
+  place-converts h hn = rw (one-there h, block-there h, both-true (ltb (p - o) (blocks d)), hn)
+
+  pub place-block : p - o ≡ blockOf d x
+  place-block = go (leb o p) refl
     where
-      n : ℕ
-      n = blocks d
+      go : (t : Bool) → leb o p ≡ t → p - o ≡ blockOf d x
+      go true q = let h = leb-true o p q in rw (one-there h, block-there h)
+      go false q = let h = leb-false o p q in rw (none-there h) (omega (arith, h))
 
-      G : ℕ
-      G = guess (pdaCode (rowOf d)) x
-
-      q : ℕ
-      q = rowOf d .boot
-
-      go : (t : Bool) → converted d (both (ltb (pick t G 0 - q) n) (leb q (pick t G 0))) (pick t G 0 - q) ≡ converted d (both (ltb (G - q) n) (eqb (pick t G 0) (G - q + q))) (G - q)
-      go true = rw (less-back G q)
-      go false =
-          rw (
-            lt-leb q 0 (fine d .pda-off),
-            ne-eqb 0 (G - q + q) (λ e. omega (arith, fine d .pda-off, e)),
-            never (ltb (0 - q) n),
-            never (ltb (G - q) n),
-          )
+-- what a walk has of the block that a link leads to
+module _ (d x : ℕ) {c s : ℕ} (h : c ≡ blockOf d x) where
+  -- above another block it is the one whose PDA x is
+  pub block-above : s < c → (c ≡ pdaBlock d x) × (x ≡ pda d c)
+  block-above l = go (eqb (pda d (pdaBlock d x)) x) refl
+    where
+      go : (t : Bool) → eqb (pda d (pdaBlock d x)) x ≡ t → (c ≡ pdaBlock d x) × (x ≡ pda d c)
+      go true q = let e : c ≡ pdaBlock d x = h ∙ rw q in (e, sym (ap (pda d) e ∙ eqb-true _ _ q))
+      go false q = let e : c ≡ 0 = h ∙ rw q in absurd (omega (arith, l, e))

@@ -4,6 +4,7 @@ ghost use Prim.Native.Nat.{_-_, _*_, _/_, _%_, _<_, _≤_};
 ghost use Rattle.drive.specs.Code.{placeNumber};
 ghost use Rattle.drive.specs.Rows.{pdaCode, micropolis};
 ghost use Rattle.drive.specs.Address.{blocks, pda, pdaBlock, orNil, lda, ldaBlock, isLda, address, fileId, fileIdBlock, fileIds};
+ghost use Rattle.drive.specs.Ranges.{blockOf};
 ghost use Rattle.drive.specs.Answers.{converted, lbnToPda, pdaToLbn, lbnToLda, ldaToLbn, lbnToFileId, fileIdToLbn};
 ghost use lib.Dec.{ltb, eqb};
 ghost use Rattle.base.specs.Tests.{both};
@@ -19,16 +20,17 @@ pub enum Converted {
     Refused(Refusal),
 }
 
-// How many blocks a drive has.
+// How many blocks a drive has. The Micropolis is asked for first, as in `place`, so that the compiler asks once for both.
 pub fn blocks(drive: usize) -> usize
     ensures { λ r. ⌜ (r ≡ blocks drive) × (r ≤ 69552) ⌝ }
 {
-    match drive {
-        0 => 24210,
-        1 => 48450,
-        2 => 69552,
-        _ => 432,
+    if drive == 2 {
+        return 69552;
     }
+    if 2 < drive {
+        return 432;
+    }
+    if drive == 0 { 24210 } else { 48450 }
 }
 
 // How many blocks of a drive have a FileID.
@@ -93,6 +95,14 @@ pub fn pda_block(drive: usize, x: usize) -> usize
         2 => less((x / 65536 * 5 + x % 65536 / 256) * 24 + x % 65536 % 256, 48),
         _ => less(x / 65536 * 6 + x % 65536 / 4, 30),
     }
+}
+
+// The block whose physical address x is; 0 where it is no block's, and for block 0, which is in no partition.
+pub fn block_of(drive: usize, x: usize) -> usize
+    requires { ⌜ x < 4294967296 ⌝ }
+    ensures { λ r. ⌜ (r ≡ blockOf drive x) × (r < 4294967296) ⌝ }
+{
+    less(place(drive, x), boot(drive))
 }
 
 // Whether x is the physical address of block b: it is asked which place x names, and b is not numbered.
@@ -180,13 +190,34 @@ fn meets(b: usize, count: usize, has: bool) -> bool
     if b < count { has } else { false }
 }
 
-// LBN to physical address.
+// LBN to physical address, which is not worked out for a number that no block has.
 pub fn lbn_to_pda(drive: u32, lbn: u32) -> Converted
     ensures { λ r. ⌜ r ≡ lbnToPda drive lbn ⌝ }
 {
     let d = wide(drive);
     let b = wide(lbn);
-    answer(d, b < blocks(d), pda(d, b))
+    if b < blocks(d) {
+        answer(d, true, pda(d, b))
+    } else {
+        answer(d, false, 0)
+    }
+}
+
+// Physical address to LBN, on a drive that is known.
+fn decoded(d: usize, x: usize) -> Converted
+    requires { ⌜ (d ≤ 3) × (x < 4294967296) ⌝ }
+    ensures { λ r. ⌜ r ≡ pdaToLbn d x ⌝ }
+{
+    let p = place(d, x);
+    let o = boot(d);
+    if p < o {
+        return Converted::Refused(Refusal::NoAddress);
+    }
+    if p - o < blocks(d) {
+        Converted::Number(p - o)
+    } else {
+        Converted::Refused(Refusal::NoAddress)
+    }
 }
 
 // Physical address to LBN.
@@ -194,10 +225,10 @@ pub fn pda_to_lbn(drive: u32, address: u32) -> Converted
     ensures { λ r. ⌜ r ≡ pdaToLbn drive address ⌝ }
 {
     let d = wide(drive);
-    let p = place(d, wide(address));
-    let o = boot(d);
-    let b = less(p, o);
-    answer(d, meets(b, blocks(d), o <= p), b)
+    if 3 < d {
+        return Converted::Refused(Refusal::BadImage);
+    }
+    decoded(d, wide(address))
 }
 
 // LBN to logical address.

@@ -7,11 +7,12 @@ use Prim.Native.Nat.{ℕ, _+_, _-_, _*_, _/_, _≤_, _<_}
 use native.Mathlib.Nat.{eq-or-lt-of-le}
 use native.Mathlib.Numerals.{add-one}
 use native.Mathlib.Omega.{arith}
+use lib.Bits.{bitOr, or-add-and, and-le-l, and-le-r}
 use lib.Dec.{ltb, leb, eqb}
 use lib.IntN.{ℤ}
 use borrow.Author.Needs.{needs}
 use borrow.Author.Tests.{ltb-false, lt-ltb, le-ltb, eq-eqb, ne-eqb, eqb-true, eqb-false}
-use Rattle.base.specs.Tests.{pick, every, all}
+use Rattle.base.specs.Tests.{pick, both, every, all}
 use Rattle.base.specs.Laws.{all-of}
 use Rattle.image.specs.View.{View, pair}
 use Rattle.image.specs.Image.{view}
@@ -56,20 +57,24 @@ least-reach k a n j r q l h u = go (ltb (k - a) 128) refl
     go true z = let m : n ≡ k - a = q ∙ rw z in omega arith
     go false z = let m : n ≡ 128 = q ∙ rw z in omega arith
 
--- ---- the walk that adds up the entries from k on
+-- no blocks need no entry
+pub index-none : (π : Partition) (v : View) (f n : ℕ) → n ≡ 0 → true ≡ indexGood π v f n
+unfolding indexGood both all low
+index-none π v f n h = rw (h)
 
-eqb-sum : (a b : ℕ) → eqb (a + b) 0 ≡ (eqb b 0 && eqb a 0)
-eqb-sum a b = go (eqb b 0) refl (eqb a 0) refl
+-- ---- the walk that gathers the bits of the entries from k on
+
+eqb-or : (a b : ℕ) → eqb (bitOr a b) 0 ≡ (eqb b 0 && eqb a 0)
+eqb-or a b = go (eqb b 0) refl (eqb a 0) refl
   where
-    go : (t : Bool) → eqb b 0 ≡ t → (u : Bool) → eqb a 0 ≡ u → eqb (a + b) 0 ≡ (t && u)
-    go true p true q = eq-eqb (a + b) 0 (let x = eqb-true b 0 p in let y = eqb-true a 0 q in omega arith)
-    go true p false q = ne-eqb (a + b) 0 (λ z. eqb-false a 0 q (omega arith))
-    go false p u q = ne-eqb (a + b) 0 (λ z. eqb-false b 0 p (omega arith))
+    go : (t : Bool) → eqb b 0 ≡ t → (u : Bool) → eqb a 0 ≡ u → eqb (bitOr a b) 0 ≡ (t && u)
+    go true p true q = eq-eqb (bitOr a b) 0 (omega (arith, or-add-and a b, eqb-true b 0 p, eqb-true a 0 q))
+    go true p false q = ne-eqb (bitOr a b) 0 (λ z. eqb-false a 0 q (omega (arith, or-add-and a b, and-le-r a b, z)))
+    go false p u q = ne-eqb (bitOr a b) 0 (λ z. eqb-false b 0 p (omega (arith, or-add-and a b, and-le-l a b, z)))
 
 -- at i, which is past n only where k is
-pub record Nils (v : View) (f w k n i sum : ℕ) : Type 0 where
-  pub is : eqb sum 0 ≡ all i (nilFrom v f w k)
-  pub small : sum ≤ 4294967295 * i
+pub record Nils (v : View) (f w k n i any : ℕ) : Type 0 where
+  pub is : eqb any 0 ≡ all i (nilFrom v f w k)
   pub from : k ≤ i
   pub past : n < i → i ≤ k
 
@@ -78,19 +83,18 @@ nil-below v f w k m h = all-of m (nilFrom v f w k) (λ j l. rw (lt-ltb j k (omeg
 
 module _ {v : View} {f w k n : ℕ} where
   pub nil-starts : Nils v f w k n k 0
-  nil-starts = record { is = sym (nil-below v f w k k (omega arith)); small = omega arith; from = omega arith; past = λ h. omega arith }
+  nil-starts = record { is = sym (nil-below v f w k k (omega arith)); from = omega arith; past = λ h. omega arith }
 
-  module _ {i sum : ℕ} (g : Nils v f w k n i sum) where
-    pub nil-next : {x : ℕ} → i < n → (x ≡ pair v f (w + 2 * i)) × (x < 4294967296) → Nils v f w k n (i + 1) (sum + x)
+  module _ {i any : ℕ} (g : Nils v f w k n i any) where
+    pub nil-next : {x y : ℕ} → i < n → y ≡ x → x ≡ pair v f (w + 2 * i) → Nils v f w k n (i + 1) (bitOr any y)
     unfolding all
-    nil-next {x} l q = record {
-      is = rw (add-one i, all, le-ltb i k (g .from), ← q .0, ← g .is) (eqb-sum sum x);
-      small = omega (arith, g .small, q .1);
+    nil-next {x} {y} l p q = record {
+      is = rw (add-one i, all, le-ltb i k (g .from), ← q, ← p, ← g .is) (eqb-or any y);
       from = omega (arith, g .from);
       past = λ h. absurd (omega arith);
     }
 
-    pub nil-end : n ≤ i → eqb sum 0 ≡ all n (nilFrom v f w k)
+    pub nil-end : n ≤ i → eqb any 0 ≡ all n (nilFrom v f w k)
     nil-end h = ⊎-elim (λ j. rw j (g .is)) (λ j. g .is ∙ nil-below v f w k i (g .past j) ∙ sym (nil-below v f w k n (let z = g .past j in omega arith))) (eq-or-lt-of-le h)
 
 pub ruleset nils = (nil-starts, nil-next, nil-end, needs)

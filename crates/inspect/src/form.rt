@@ -22,17 +22,25 @@ use volume::words::LOW_ADDRESS;
 use volume::words::LOW_NUMBER;
 use volume::words::SECOND_DOUBLE;
 
-// Whether of the n entries from word w on those from k on are nil: whether they add up to 0. With no way out of the loop the
-// compiler reads several at a time.
+// A pair in 32 bits.
+fn narrow(x: usize) -> u32
+    requires { ⌜ x < 4294967296 ⌝ }
+    ensures { λ r. ⌜ r ≡ x ⌝ }
+{
+    x as u32
+}
+
+// Whether of the n entries from word w on those from k on are nil: whether no bit is set in any. With no way out of the loop, and
+// with 32 bits kept, the compiler reads several at a time.
 fn nil_from(img: &[u8], f: usize, w: usize, k: usize, n: usize) -> bool
     requires { ⌜ (528 * f + 528 ≤ length (now img)) × (w + 2 * n < 263) ⌝ }
     ensures { λ a. ⌜ a ≡ all n (nilFrom (view (now (img .entry))) f w k) ⌝ }
 {
-    let mut sum: usize = 0;
+    let mut any: u32 = 0;
     for i in k..n {
-        sum += image::pair(img, f, w + 2 * i);
+        any = any | narrow(image::pair(img, f, w + 2 * i));
     }
-    sum == 0
+    any == 0
 }
 
 // Whether the entries of the FIB that n blocks do not need are nil.

@@ -108,8 +108,8 @@ fn direct_good(img: &[u8], p: Partition, f: usize, own: usize, m: usize) -> bool
     true
 }
 
-// Whether every entry that n blocks need is good.
-pub fn index_good(img: &[u8], p: Partition, f: usize, n: usize) -> bool
+// Whether every entry that n blocks need is good, each looked at.
+fn entries_good(img: &[u8], p: Partition, f: usize, n: usize) -> bool
     requires { ⌜ (Lies p (now img)) × (f ≤ p .e) × (n ≤ 4160) ⌝ }
     ensures { λ a. ⌜ a ≡ indexGood p (view (now (img .entry))) f n ⌝ }
 {
@@ -134,6 +134,18 @@ pub fn index_good(img: &[u8], p: Partition, f: usize, n: usize) -> bool
         }
     }
     good
+}
+
+// Whether every entry that n blocks need is good: without blocks no address is worked out.
+pub fn index_good(img: &[u8], p: Partition, f: usize, n: usize) -> bool
+    requires { ⌜ (Lies p (now img)) × (f ≤ p .e) × (n ≤ 4160) ⌝ }
+    ensures { λ a. ⌜ a ≡ indexGood p (view (now (img .entry))) f n ⌝ }
+{
+    if n < 1 {
+        true
+    } else {
+        entries_good(img, p, f, n)
+    }
 }
 
 // The block of key k of f, whose index is good: an entry that is asked for is the LDA of a block.

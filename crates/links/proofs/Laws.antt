@@ -1,6 +1,6 @@
 -- What the code that reads a file's links has of it: where no candidate is malformed every candidate is a file that can be read; which keys
 -- a file has and which stands behind and before one; who owns a block. Assumes nothing.
-use mathlib.Core.Path.{_≡_, sym, ap, _∙_}
+use mathlib.Core.Path.{_≡_, refl, sym, ap, _∙_}
 use mathlib.Core.Logic.{_≢_}
 use mathlib.Core.List.{List}
 use mathlib.Core.Bool.{Bool, true, false}
@@ -9,8 +9,10 @@ use native.Mathlib.Omega.{arith}
 use lib.Dec.{eqb}
 use borrow.Author.Tests.{eq-eqb, ne-eqb}
 use Rattle.base.specs.Tests.{both}
-use Rattle.base.specs.Laws.{both-of}
+use Rattle.base.specs.Laws.{both-of, eqb-swap}
 use Rattle.drive.specs.Address.{pda, pdaBlock}
+use Rattle.drive.specs.Laws.{pda-pos}
+use Rattle.drive.specs.Ranges.{blockOf, block-above}
 use Rattle.image.specs.View.{View, pair}
 use Rattle.image.specs.Image.{view}
 use Rattle.volume.specs.Words.{serialAt, relativeAt}
@@ -79,29 +81,42 @@ module _ (π : Partition) (v : View) (f k : ℕ) where
   unfolding link
   link-is n q j = j ∙ ap (pda (π .drive)) q ∙ sym (rw (ne-eqb k 0 n, link))
 
--- ---- the ways through `owned`, which reads the serial x, f and the key k first
+-- ---- the ways through `owned`, which reads the serial x, the file f whose PDA it is, and the key k
 
-module _ (π : Partition) (v : View) (b x f : ℕ) (hx : x ≡ pair v b serialAt) (hf : f ≡ pdaBlock (π .drive) x) where
-  file-is : fileOf π v b ≡ f
-  file-is = sym (hf ∙ ap (pdaBlock (π .drive)) hx)
-
-  pub owned-not-file : candidate π v f ≡ false → false ≡ owned π v b
-  unfolding owned isFile
-  owned-not-file h = sym (both-no-2 _ _ (both-no _ _ (both-no _ _ (rw (← file-is) at h))))
-
-  pub owned-not-serial : x ≢ pda (π .drive) f → false ≡ owned π v b
+module _ (π : Partition) (v : View) (b x : ℕ) (hx : x ≡ pair v b serialAt) where
+  -- a serial that is not the PDA of the block that is guessed from it
+  owned-not-serial : eqb (pda (π .drive) (pdaBlock (π .drive) x)) x ≡ false → false ≡ owned π v b
   unfolding owned
-  owned-not-serial h = sym (both-no _ _ (ne-eqb _ _ (λ q. h (hx ∙ q ∙ ap (pda (π .drive)) file-is))))
+  owned-not-serial h = sym (both-no _ _ (rw hx at (eqb-swap x _ ∙ h)))
 
-  module _ (k : ℕ) (hk : k ≡ keyOf (v b relativeAt)) where
-    key-is : key v b ≡ k
-    unfolding key
-    key-is = sym hk
+  pub owned-nil : x ≡ 0 → false ≡ owned π v b
+  owned-nil h = owned-not-serial (ne-eqb (pda (π .drive) (pdaBlock (π .drive) x)) x (λ e. omega (arith, h, e, pda-pos (π .drive) (pdaBlock (π .drive) x))))
 
-    pub owned-absent : present π v f k ≡ false → false ≡ owned π v b
-    unfolding owned
-    owned-absent h = sym (both-no-2 _ _ (both-no-2 _ _ (both-no _ _ (rw (file-is, key-is) h))))
+  module _ (f : ℕ) (hf : f ≡ blockOf (π .drive) x) where
+    pub owned-not-file : candidate π v f ≡ false → false ≡ owned π v b
+    unfolding owned isFile
+    owned-not-file h = go (eqb (pda (π .drive) (pdaBlock (π .drive) x)) x) refl
+      where
+        go : (t : Bool) → eqb (pda (π .drive) (pdaBlock (π .drive) x)) x ≡ t → false ≡ owned π v b
+        go true q = sym (both-no-2 _ _ (both-no _ _ (both-no _ _ (rw (hf, q, hx) at h))))
+        go false q = owned-not-serial q
 
-    pub owned-here : {q : ℕ} → x ≡ pda (π .drive) f → isFile π v f ≡ true → present π v f k ≡ true → q ≡ spot π v f k → eqb q b ≡ owned π v b
-    unfolding owned both
-    owned-here ho hc hp hq = rw (file-is, key-is, eq-eqb _ _ (sym hx ∙ ho), hc, hp, hq, both)
+    module _ (c : candidate π v f ≡ true) where
+      that : (f ≡ pdaBlock (π .drive) x) × (x ≡ pda (π .drive) f)
+      that = block-above (π .drive) x hf (candidate-in π v f c .0)
+
+      file-is : fileOf π v b ≡ f
+      file-is = sym (that .0 ∙ ap (pdaBlock (π .drive)) hx)
+
+      module _ (k : ℕ) (hk : k ≡ keyOf (v b relativeAt)) where
+        key-is : key v b ≡ k
+        unfolding key
+        key-is = sym hk
+
+        pub owned-absent : present π v f k ≡ false → false ≡ owned π v b
+        unfolding owned
+        owned-absent h = sym (both-no-2 _ _ (both-no-2 _ _ (both-no _ _ (rw (file-is, key-is) h))))
+
+        pub owned-here : {q : ℕ} → isFile π v f ≡ true → present π v f k ≡ true → q ≡ spot π v f k → eqb q b ≡ owned π v b
+        unfolding owned both
+        owned-here hc hp hq = rw (file-is, key-is, eq-eqb _ _ (sym hx ∙ that .1), hc, hp, hq, both)

@@ -12,17 +12,17 @@ use Rattle.drive.specs.Address.{pda}
 use Rattle.image.specs.View.{View, pair}
 use Rattle.image.specs.Image.{view}
 use Rattle.volume.specs.Words.{nextAt, previousAt, slotAt}
-use Rattle.volume.specs.Keys.{home, child, first}
+use Rattle.volume.specs.Keys.{home, child, first, low}
 use Rattle.volume.specs.KeyLaws.{low-pos}
 use Rattle.volume.specs.Files.{len, spot, present, above, below, least, link, linkTest, tailTest, linked}
 use Rattle.volume.specs.declared.Partition.{Partition}
-use Rattle.volume.specs.Index.{span-at, span-of, present-low, present-high}
+use Rattle.volume.specs.Index.{span-at, span-of, present-low, present-high, spot-home}
 use Rattle.volume.specs.Order.{Next, prev-one, least-is, least-present, above-below, above-next, below-prev}
 use Rattle.volume.specs.Closed.{entriesOf, entry-asked}
 use Rattle.volume.specs.Steps.{every-no, Passed, pass-next, pass-fails, pass-end}
 use Rattle.inspect.specs.Parts.{Opened}
 use Rattle.inspect.proofs.Laws.{opened-few}
-use Rattle.links.proofs.Laws.{key-pos, link-nil, link-is}
+use Rattle.links.proofs.Laws.{key-pos, first-is, next-is, link-nil, link-is}
 use Rattle.base.specs.Laws.{never, both-left}
 
 -- ---- the unused entries of a pointer block
@@ -187,3 +187,14 @@ module _ {π : Partition} {l : List ℕ} {f : ℕ} (o : Opened π l f) where
         within = h .1;
         address = q ∙ eqb-true _ _ (both-left _ _ (sym hr ∙ e));
       }
+
+  -- a file without data is its FIB alone
+  pub link-alone : {r : Bool} {n : ℕ} → n ≡ len (view l) f → n ≡ 0 → r ≡ links (view l) f 0 0 → r ≡ linked π (view l) f
+  unfolding low
+  link-alone {r} {n} q z hr = link-end turn refl hr
+    where
+      start : Linking π l f home 0 f (pda (π .drive) f)
+      start = link-starts (first-is o q (rw z)) (sym (spot-home π (view l) f), o .here) refl
+
+      turn : Turn π l f home 0 f (pda (π .drive) f) 0
+      turn = record { at = start; tailed = tails-none π (view l) f home (omega arith); next = next-is o q home (start .there) (rw z) }

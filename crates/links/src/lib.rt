@@ -36,11 +36,12 @@ pub fn owned(img: &[u8], p: Partition, b: usize) -> bool
     ensures { λ r. ⌜ r ≡ owned p (view (now (img .entry))) b ⌝ }
 {
     let x = image::pair(img, b, SERIAL);
-    let f = drive::pda_block(p.drive, x);
-    if !inspect::candidate(img, p, f) {
+    // Most free blocks have no serial: nothing is to be split.
+    if x == 0 {
         return false;
     }
-    if !drive::is_pda(p.drive, x, f) {
+    let f = drive::block_of(p.drive, x);
+    if !inspect::candidate(img, p, f) {
         return false;
     }
     let n = inspect::len(img, f);
@@ -90,12 +91,12 @@ fn link_good(img: &[u8], b: usize, next: usize, previous: usize) -> bool
     }
 }
 
-// Whether the next link of block b leads to block c, and its previous link is `before`.
-fn leads(img: &[u8], p: Partition, b: usize, c: usize, before: usize) -> bool
-    requires { ⌜ (528 * b + 528 ≤ length (now img)) × (c < 4294967296) ⌝ }
+// Whether x, the next link of block b, leads to block c, and the previous link is `before`.
+fn leads(img: &[u8], p: Partition, b: usize, x: usize, c: usize, before: usize) -> bool
+    requires { ⌜ (528 * b + 528 ≤ length (now img)) × (x ≡ pair (view (now img)) b nextAt) × (x < 4294967296) × (c < 4294967296) ⌝ }
     ensures { λ r. ⌜ r ≡ both (eqb (pair (view (now (img .entry))) b nextAt) (pda (p .drive) c)) (eqb (pair (view (now (img .entry))) b previousAt) before) ⌝ }
 {
-    if drive::is_pda(p.drive, image::pair(img, b, NEXT), c) {
+    if drive::is_pda(p.drive, x, c) {
         image::pair(img, b, PREVIOUS) == before
     } else {
         false
@@ -116,13 +117,12 @@ fn tail_good(img: &[u8], n: usize, k: usize, q: usize) -> bool
     true
 }
 
-// Whether the blocks of f are linked in order, from key to key. At key k the walk has its block b, the address of b, and that of the
+// Whether the n blocks of f are linked in order, from key to key. At key k the walk has its block b, the address of b, and that of the
 // block before: a link that leads to a block is the block's address.
-pub fn linked(img: &[u8], p: Partition, f: usize) -> bool
-    requires { ⌜ Opened p (now img) f ⌝ }
+fn linked_on(img: &[u8], p: Partition, f: usize, n: usize) -> bool
+    requires { ⌜ (Opened p (now img) f) × (n ≡ len (view (now img)) f) ⌝ }
     ensures { λ r. ⌜ r ≡ linked p (view (now (img .entry))) f ⌝ }
 {
-    let n = inspect::len(img, f);
     let mut k = inspect::low(n);
     let mut before: usize = 0;
     let mut b = inspect::spot(img, p, f, k);
@@ -138,12 +138,26 @@ pub fn linked(img: &[u8], p: Partition, f: usize) -> bool
             return link_good(img, b, 0, before);
         }
         let c = inspect::spot(img, p, f, j);
-        if !leads(img, p, b, c, before) {
+        let x = image::pair(img, b, NEXT);
+        if !leads(img, p, b, x, c, before) {
             return false;
         }
         before = own;
-        own = image::pair(img, b, NEXT);
+        own = x;
         b = c;
         k = j;
+    }
+}
+
+// Whether the blocks of f are linked in order. Without data f is all there is, and no address is worked out.
+pub fn linked(img: &[u8], p: Partition, f: usize) -> bool
+    requires { ⌜ Opened p (now img) f ⌝ }
+    ensures { λ r. ⌜ r ≡ linked p (view (now (img .entry))) f ⌝ }
+{
+    let n = inspect::len(img, f);
+    if n < 1 {
+        link_good(img, f, 0, 0)
+    } else {
+        linked_on(img, p, f, n)
     }
 }

@@ -5,24 +5,46 @@ use mathlib.Core.Bool.{Bool, true, false, not, true≢false}
 use Prim.Native.Nat.{ℕ, zero, suc, _+_, _-_, _≤_, _<_}
 use native.Mathlib.Omega.{arith}
 use native.Mathlib.Nat.{sub-zero}
-use lib.Dec.{eqb}
+use lib.Dec.{ltb, leb, eqb}
 use lib.ListN.{length}
-use borrow.Author.Tests.{eq-eqb, eqb-true, eqb-false}
-use Rattle.base.specs.Tests.{both, lastOf, headOf}
+use borrow.Author.Tests.{le-ltb, lt-leb, eq-eqb, eqb-true, eqb-false}
+use Rattle.base.specs.Tests.{pick, both, lastOf, headOf}
 use Rattle.drive.specs.Address.{pda, pdaBlock, orNil}
+use Rattle.drive.specs.Ranges.{blockOf}
 use Rattle.image.specs.View.{View, pair}
-use Rattle.base.specs.Laws.{both-of, both-left, both-right}
+use Rattle.base.specs.Laws.{both-of, both-left, both-right, both-true}
 use Rattle.volume.specs.Words.{nextAt, previousAt}
 use Rattle.volume.specs.Files.{inside, owned, within, chain, chained}
 use Rattle.volume.specs.declared.Partition.{Partition}
 use Rattle.volume.specs.Reads.{inside-of, or-pda}
-use Rattle.volume.specs.Steps.{more, none}
+use Rattle.volume.specs.Steps.{more, none, both-no, both-no-2}
 use Rattle.verify.specs.Walks.{onward, stepAt, walk}
 use Rattle.verify.specs.declared.Step.{Step}
 use Rattle.verify.specs.declared.Step.the-variants.{Bad, End, On}
 use Rattle.verify.specs.declared.Walk.{Walk}
 use Rattle.verify.specs.declared.Walk.the-variants.{Wrong, Free}
 use Rattle.frame.specs.Chain.{chain-end, chain-more}
+
+-- blocks that are not in s+1..e
+pub low-out : (π : Partition) (b : ℕ) → b ≤ π.s → inside π b ≡ false
+unfolding inside
+low-out π b h = both-no (ltb π.s b) (leb b π.e) (le-ltb π.s b h)
+
+pub high-out : (π : Partition) (b : ℕ) → π.e < b → inside π b ≡ false
+unfolding inside
+high-out π b h = both-no-2 (ltb π.s b) (leb b π.e) (lt-leb b π.e h)
+
+-- where the next link x leads, by the block whose PDA it is
+pub onward-by : (π : Partition) (x : ℕ) {c : ℕ} → c ≡ blockOf π.drive x → pick (eqb x 0) End (pick (inside π c) (On c) Bad) ≡ onward π x
+unfolding onward
+onward-by π x {c} h = go (eqb (pda π.drive block) x) refl
+  where
+    block : ℕ
+    block = pdaBlock π.drive x
+
+    go : (t : Bool) → eqb (pda π.drive block) x ≡ t → pick (eqb x 0) End (pick (inside π c) (On c) Bad) ≡ onward π x
+    go true q = rw (h, q, both-true (inside π block), onward)
+    go false q = rw (h, q, both-no-2 (inside π block) false refl, low-out π 0 (omega arith), onward)
 
 -- the loop: n passed of at most m, at block b with the address `own`; w is the answer of the whole
 pub record Walking (π : Partition) (v : View) (m before own b n : ℕ) (w : Walk) : Type 0 where

@@ -28,38 +28,27 @@ use Rattle.verify.specs.declared.Survey.{Survey}
 use Rattle.verify.specs.declared.Survey.the-variants as found
 use Rattle.volume.specs.Frame.{of-clean}
 
--- a standing, by its two tests, and back
-abbrev told : Bool → Bool → ℕ → Standing
-told c w n = pick c (pick w (stands.File n) stands.Faulty) stands.Other
+-- a standing, by its test, and back
+abbrev told : Bool → ℕ → Standing
+told w n = pick w (stands.File n) stands.Faulty
 
-told-other : (c w : Bool) (n : ℕ) → told c w n ≡ stands.Other → c ≡ false
-told-other false w n q = refl
-told-other true true n q = let z : _≡_ {A = ℕ} 0 1 = cc in absurd (omega arith)
-told-other true false n q = let z : _≡_ {A = ℕ} 0 1 = cc in absurd (omega arith)
+told-faulty : (w : Bool) (n : ℕ) → told w n ≡ stands.Faulty → w ≡ false
+told-faulty false n q = refl
+told-faulty true n q = let z : _≡_ {A = ℕ} 0 1 = cc in absurd (omega arith)
 
-told-faulty : (c w : Bool) (n : ℕ) → told c w n ≡ stands.Faulty → (c ≡ true) × (w ≡ false)
-told-faulty true false n q = (refl, refl)
-told-faulty true true n q = let z : _≡_ {A = ℕ} 0 1 = cc in absurd (omega arith)
-told-faulty false w n q = let z : _≡_ {A = ℕ} 0 1 = cc in absurd (omega arith)
-
-told-file : (c w : Bool) (n k : ℕ) → told c w n ≡ stands.File k → (c ≡ true) × (w ≡ true) × (k ≡ n)
-told-file true true n k q = let z : n ≡ k = cc in (refl, refl, sym z)
-told-file true false n k q = let z : _≡_ {A = ℕ} 0 1 = cc in absurd (omega arith)
-told-file false w n k q = let z : _≡_ {A = ℕ} 0 1 = cc in absurd (omega arith)
+told-file : (w : Bool) (n k : ℕ) → told w n ≡ stands.File k → (w ≡ true) × (k ≡ n)
+told-file true n k q = let z : n ≡ k = cc in (refl, sym z)
+told-file false n k q = let z : _≡_ {A = ℕ} 0 1 = cc in absurd (omega arith)
 
 module _ (π : Partition) (v : View) where
   module _ (f : ℕ) where
-    pub stands-other : candidate π v f ≡ false → stands.Other ≡ standing π v f
+    pub stands-faulty : both (wellFormed π v f) (linked π v f) ≡ false → stands.Faulty ≡ standing π v f
     unfolding standing
-    stands-other c = sym (rw (c, standing))
+    stands-faulty w = sym (rw (w, standing))
 
-    pub stands-faulty : candidate π v f ≡ true → both (wellFormed π v f) (linked π v f) ≡ false → stands.Faulty ≡ standing π v f
+    pub stands-file : {n m : ℕ} → wellFormed π v f ≡ true → linked π v f ≡ true → n ≡ len v f → m ≡ sizeOf n → stands.File m ≡ standing π v f
     unfolding standing
-    stands-faulty c w = sym (rw (c, w, standing))
-
-    pub stands-file : {n m : ℕ} → candidate π v f ≡ true → wellFormed π v f ≡ true → linked π v f ≡ true → n ≡ len v f → m ≡ sizeOf n → stands.File m ≡ standing π v f
-    unfolding standing
-    stands-file c w l hn hm = sym (rw (c, both-of w l, hm ∙ ap sizeOf hn ∙ sym (size-closed π v f w), standing))
+    stands-file w l hn hm = sym (rw (both-of w l, hm ∙ ap sizeOf hn ∙ sym (size-closed π v f w), standing))
 
     -- the blocks that a file's size is asked of
     pub size-asks : {n : ℕ} → wellFormed π v f ≡ true → n ≡ len v f → n ≤ 4160
@@ -81,22 +70,12 @@ module _ (π : Partition) (v : View) where
   unfolding all count sum
   pass-starts = record { good = refl; many = refl; few = omega arith; blocks = refl; short = omega arith }
 
-  -- the block's tests, by how it stands
-  module _ (i f : ℕ) (hf : f ≡ blockAt π i) {x : Standing} (hx : x ≡ standing π v f) where
-    abbrev b : ℕ
-    b = blockAt π i
-
-    abbrev form : Bool
-    form = both (wellFormed π v b) (linked π v b)
-
-    at-i : x ≡ told (candidate π v b) form (size π v b)
-    unfolding standing
-    at-i = hx ∙ ap (standing π v) hf
-
-    pub pass-other : (files owned : ℕ) → x ≡ stands.Other → Passed i files owned → Passed (i + 1) files owned
+  -- the block's tests: no candidate, or by how it stands
+  module _ (i f : ℕ) (hf : f ≡ blockAt π i) where
+    pub pass-other : (files owned : ℕ) → candidate π v f ≡ false → Passed i files owned → Passed (i + 1) files owned
     unfolding all count sum isFile both needs
     pass-other files owned q p =
-        let c = told-other (candidate π v b) form (size π v b) (sym at-i ∙ q) in
+        let c : candidate π v (blockAt π i) ≡ false = rw hf at q in
         rw (add-one i) (record {
           good = rw c (p .good);
           many = rw c (omega (arith, p .many));
@@ -105,36 +84,49 @@ module _ (π : Partition) (v : View) where
           short = omega (arith, p .short);
         })
 
-    pub pass-file : (files owned n : ℕ) → x ≡ stands.File n → Passed i files owned → Passed (i + 1) (files + 1) (owned + n)
-    unfolding all count sum isFile both needs
-    pass-file files owned n q p =
-        let t = told-file (candidate π v b) form (size π v b) n (sym at-i ∙ q) in
-        let c : candidate π v b ≡ true = t .0 in
-        let w : wellFormed π v b ≡ true = both-left (wellFormed π v b) (linked π v b) (t .1) in
-        let l : linked π v b ≡ true = both-right (wellFormed π v b) (linked π v b) (t .1) in
-        rw (add-one i) (record {
-          good = rw (c, w, l) (p .good);
-          many = rw (c, w) (omega (arith, p .many));
-          few = omega (arith, p .few);
-          blocks = rw (c, w) (omega (arith, p .blocks, t .2));
-          short = omega (arith, p .short, t .2, size-few b w);
-        })
+    module _ (hc : candidate π v f ≡ true) {x : Standing} (hx : x ≡ standing π v f) where
+      abbrev b : ℕ
+      b = blockAt π i
 
-    pub file-short : (n : ℕ) → x ≡ stands.File n → n ≤ 4450
-    file-short n q =
-        let t = told-file (candidate π v b) form (size π v b) n (sym at-i ∙ q) in
-        omega (arith, t .2, size-few b (both-left (wellFormed π v b) (linked π v b) (t .1)))
+      abbrev form : Bool
+      form = both (wellFormed π v b) (linked π v b)
 
-    test-faulty : x ≡ stands.Faulty → fileTest π v i ≡ false
-    test-faulty q = let t = told-faulty (candidate π v b) form (size π v b) (sym at-i ∙ q) in rw (t .0, t .1)
+      c : candidate π v b ≡ true
+      c = rw hf at hc
 
-    pub pass-faulty : x ≡ stands.Faulty → i < π.e - π.s → found.Faulty ≡ survey π v
-    unfolding survey
-    pass-faulty q l = sym (rw (go (all (π.e - π.s) (fileTest π v)) refl, survey))
-      where
-        go : (t : Bool) → all (π.e - π.s) (fileTest π v) ≡ t → t ≡ false
-        go false z = refl
-        go true z = absurd (true≢false (sym (all-at (π.e - π.s) (fileTest π v) z i l) ∙ test-faulty q))
+      at-i : x ≡ told form (size π v b)
+      unfolding standing
+      at-i = hx ∙ ap (standing π v) hf
+
+      pub pass-file : (files owned n : ℕ) → x ≡ stands.File n → Passed i files owned → Passed (i + 1) (files + 1) (owned + n)
+      unfolding all count sum isFile both needs
+      pass-file files owned n q p =
+          let t = told-file form (size π v b) n (sym at-i ∙ q) in
+          let w : wellFormed π v b ≡ true = both-left (wellFormed π v b) (linked π v b) (t .0) in
+          let l : linked π v b ≡ true = both-right (wellFormed π v b) (linked π v b) (t .0) in
+          rw (add-one i) (record {
+            good = rw (c, w, l) (p .good);
+            many = rw (c, w) (omega (arith, p .many));
+            few = omega (arith, p .few);
+            blocks = rw (c, w) (omega (arith, p .blocks, t .1));
+            short = omega (arith, p .short, t .1, size-few b w);
+          })
+
+      pub file-short : (n : ℕ) → x ≡ stands.File n → n ≤ 4450
+      file-short n q =
+          let t = told-file form (size π v b) n (sym at-i ∙ q) in
+          omega (arith, t .1, size-few b (both-left (wellFormed π v b) (linked π v b) (t .0)))
+
+      test-faulty : x ≡ stands.Faulty → fileTest π v i ≡ false
+      test-faulty q = rw (c, told-faulty form (size π v b) (sym at-i ∙ q))
+
+      pub pass-faulty : x ≡ stands.Faulty → i < π.e - π.s → found.Faulty ≡ survey π v
+      unfolding survey
+      pass-faulty q l = sym (rw (go (all (π.e - π.s) (fileTest π v)) refl, survey))
+        where
+          go : (t : Bool) → all (π.e - π.s) (fileTest π v) ≡ t → t ≡ false
+          go false z = refl
+          go true z = absurd (true≢false (sym (all-at (π.e - π.s) (fileTest π v) z i l) ∙ test-faulty q))
 
   pub pass-ends : (files owned : ℕ) → Passed (π.e - π.s) files owned → found.Linked files owned ≡ survey π v
   unfolding survey

@@ -4,7 +4,7 @@ use Prim.Native.Nat.{ℕ, _-_}
 use Rattle.base.specs.Tests.{pick, both, all, count}
 use Rattle.base.specs.Sums.{sum}
 use Rattle.image.specs.View.{View}
-use Rattle.volume.specs.Files.{blockAt, candidate, wellFormed, linked, isFile, size, fileTest}
+use Rattle.volume.specs.Files.{blockAt, wellFormed, linked, isFile, size, fileTest}
 use Rattle.volume.specs.declared.Partition.{Partition}
 use Rattle.frame.specs.Needed.{needs}
 use Rattle.verify.specs.declared.Standing.{Standing}
@@ -20,9 +20,9 @@ module _ (π : Partition) (v : View) where
   abbrev pub sizeAt : ℕ → ℕ
   sizeAt i = needs π v (blockAt π i)
 
-  -- block f is no candidate, a file that is linked, of so many blocks, or neither
+  -- candidate f is a file that is linked, of so many blocks, or not
   unfoldable pub standing : ℕ → Standing
-  standing f = pick (candidate π v f) (pick (both (wellFormed π v f) (linked π v f)) (stands.File (size π v f)) stands.Faulty) stands.Other
+  standing f = pick (both (wellFormed π v f) (linked π v f)) (stands.File (size π v f)) stands.Faulty
 
   -- where every candidate is a file that is linked: how many files there are, and how many blocks they have
   unfoldable pub survey : Survey

@@ -34,9 +34,8 @@ pub enum Walk {
     Free(usize, usize),
 }
 
-// How a block stands: no candidate, a file of so many blocks that are linked, or a candidate that is not well formed or not linked.
+// How a candidate stands: a file of so many blocks that are linked, or not well formed or not linked.
 pub enum Standing {
-    Other,
     Faulty,
     File(usize),
 }
@@ -55,18 +54,14 @@ fn onward(p: Partition, x: usize) -> Step
     if x == 0 {
         return Step::End;
     }
-    let c = drive::pda_block(p.drive, x);
+    let c = drive::block_of(p.drive, x);
     if c <= p.s {
         return Step::Bad;
     }
     if p.e < c {
         return Step::Bad;
     }
-    if drive::is_pda(p.drive, x, c) {
-        Step::On(c)
-    } else {
-        Step::Bad
-    }
+    Step::On(c)
 }
 
 // Where the chain goes from block b, whose previous link should be `before`.
@@ -164,14 +159,11 @@ fn free_good(img: &[u8], p: Partition, owned: usize) -> bool
     }
 }
 
-// How block f stands.
+// How candidate f stands.
 fn stands(img: &[u8], p: Partition, f: usize) -> Standing
-    requires { ⌜ Lies p (now img) ⌝ }
+    requires { ⌜ (Lies p (now img)) × (f ≤ p .e) ⌝ }
     ensures { λ r. ⌜ r ≡ standing p (view (now (img .entry))) f ⌝ }
 {
-    if !inspect::candidate(img, p, f) {
-        return Standing::Other;
-    }
     if !inspect::well_formed(img, p, f) {
         return Standing::Faulty;
     }
@@ -191,11 +183,12 @@ fn surveyed(img: &[u8], p: Partition) -> Survey
     let mut files: usize = 0;
     let mut owned: usize = 0;
     for i in 0..m {
-        let x = stands(img, p, p.s + i + 1);
+        let f = p.s + i + 1;
+        if !inspect::candidate(img, p, f) {
+            continue;
+        }
+        let x = stands(img, p, f);
         match x {
-            Standing::Other => {
-                continue;
-            }
             Standing::Faulty => {
                 return Survey::Faulty;
             }

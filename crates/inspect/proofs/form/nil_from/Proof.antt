@@ -1,15 +1,14 @@
 use Prim.Native.Nat.{_-_}
 use Rattle.image.specs.Image.{view}
 use Rattle.inspect.proofs.Ways.{Nils, nils}
-use Rattle.inspect.proofs.Ways.{nils}
 use Rattle.inspect.proofs.form.nil_from.Statement.{statement}
 use Rattle.inspect.proofs.form.nil_from.Tie as tie
 
 abbrev Inv-loop : tie.InvT-loop
-Inv-loop img f w k n sum₀ i₀ sum i = Nils (view img) f w k n i sum
+Inv-loop img f w k n any₀ i₀ any i = Nils (view img) f w k n i any
 
 abbrev μ-loop : tie.MeasureT-loop
-μ-loop img f w k n sum₀ i₀ sum i = n - i
+μ-loop img f w k n any₀ i₀ any i = n - i
 
 pub nil-from-spec : {M : Type 1} → statement M
 nil-from-spec =
