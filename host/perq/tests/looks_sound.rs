@@ -2,7 +2,8 @@
 //! the library, of the reference and of the plain C check refuse them alike.
 
 use perq::{raw, Drive};
-use reference::image::{FREE_HEAD, FREE_TAIL, HEADER, NEXT, RECORD};
+use reference::file::{DIRECT, KIND};
+use reference::image::{FREE_HEAD, FREE_TAIL, HEADER, NEXT, PREVIOUS, RECORD};
 use reference::inspect::file_blocks;
 use reference::sample::{fresh, scattered};
 use reference::{lda_to_lbn, Answer, DONE};
@@ -100,6 +101,56 @@ fn an_index_that_names_blocks_outside_of_the_partition() {
                     let answer = check(&moved_out(&image, &place, f, b, outside), &place);
                     assert!(is_refusal(answer, 4), "block {b} of {f} at {outside}: {answer:?}");
                     assert_eq!(answer.block, f);
+                }
+            }
+        }
+    }
+}
+
+/// Entries of a FIB that nothing needs: any one with a single bit, and any two in a row that add up to nothing in 32 bits.
+#[test]
+fn unused_entries_that_are_not_nil() {
+    for drive in 0..4 {
+        let place = Place::whole(drive, 16);
+        for length in [0, 1, 9] {
+            let image = scattered(drive, place.n, place.s, place.e, &[length], 1);
+            let f = candidates(&image, &place)[0];
+            let unused = (DIRECT + 2 * length as usize..KIND).step_by(2);
+            for (at, bit) in unused.flat_map(|at| (0..32).map(move |bit| (at, 1u32 << bit))) {
+                let mut other = image.clone();
+                set_pair(&mut other, f, DATA_WORD + at, bit);
+                assert_eq!(malformed(&other, &place), f, "{bit} at {at} of {length} blocks");
+                if at + 2 < KIND {
+                    set_pair(&mut other, f, DATA_WORD + at + 2, bit.wrapping_neg());
+                    assert_eq!(malformed(&other, &place), f, "{bit} and its opposite at {at}");
+                }
+            }
+        }
+    }
+}
+
+/// The malformed candidate by which check is refused.
+fn malformed(image: &[u8], place: &Place) -> u32 {
+    let answer = check(image, place);
+    assert!(is_refusal(answer, 4), "{answer:?}");
+    answer.block
+}
+
+/// A FIB with a link to a block that it does not go with, of files without data too.
+#[test]
+fn a_fib_with_another_link() {
+    for drive in 0..4 {
+        let place = Place::whole(drive, 12);
+        let image = scattered(drive, place.n, place.s, place.e, &[0, 0, 2], 1);
+        for f in candidates(&image, &place) {
+            for at in [NEXT, PREVIOUS] {
+                for b in place.s..=place.e {
+                    let mut linked = image.clone();
+                    if pair(&linked, f, at) == place.pda(b) {
+                        continue;
+                    }
+                    set_pair(&mut linked, f, at, place.pda(b));
+                    assert!(is_refusal(check(&linked, &place), 5), "block {b} at {at} of {f}");
                 }
             }
         }
