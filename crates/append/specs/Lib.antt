@@ -1,5 +1,1 @@
-pub mod Numbers
-pub mod Grown
-pub mod Bodies
-pub mod Growing
-pub mod Row
+pub mod Appends

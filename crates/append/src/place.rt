@@ -1,14 +1,16 @@
 // Where the blocks of a file stand after a write, key by key, and how they are linked.
 ghost use mathlib.Core.Path.{_≡_};
 ghost use mathlib.Core.Bool.{true};
-ghost use mathlib.Core.List.{_∷_, []};
-ghost use Prim.Native.Nat.{_≤_, _<_};
+ghost use mathlib.Core.List.{List, _∷_, []};
+ghost use Prim.Native.Nat.{ℕ, _≤_, _<_};
+ghost use Rattle.image.specs.View.{View, Rec};
 ghost use Rattle.image.specs.Image.{view, recOf};
-ghost use Rattle.volume.specs.Writes.{present′, spot′, link′};
+ghost use Rattle.volume.specs.declared.Partition.{Partition};
+ghost use Rattle.volume.specs.Keys.{reach};
+ghost use Rattle.volume.specs.Writes.{needs, isNew, fresh, present′, spot′, link′, empty, body, store};
+ghost use Rattle.growth.specs.Ready.{Behind};
 ghost use Rattle.records.specs.Records.{Block, StandsFor};
-ghost use Rattle.append.specs.Numbers.{grows};
-ghost use Rattle.append.specs.Bodies.{stamped};
-ghost use Rattle.append.specs.Growing.{Growing, tied};
+ghost use Rattle.append.specs.Appends.{Appends};
 use crate::Append;
 use image::Save;
 use inspect::FIRST;
@@ -19,42 +21,70 @@ use volume::words::PREVIOUS;
 use volume::words::RELATIVE;
 use volume::words::SERIAL;
 
-// Whether block n needs a new pointer block.
-pub fn grows(n: usize) -> bool
-    requires { ⌜ n < 4160 ⌝ }
-    ensures { λ r. ⌜ r ≡ grows n ⌝ }
+// How many blocks a write of block n takes, n behind the last: data, the pointer block over it, -2 or -3.
+pub fn needs(n: usize) -> usize
+    requires { ⌜ n < reach ⌝ }
+    ensures { λ m. ⌜ (1 ≤ m) × (m ≤ 3) × ((π : Partition) (v : View) (f : ℕ) → Behind π v f n → m ≡ needs π v f n) ⌝ }
 {
-    inspect::low(n + 1) < inspect::low(n)
+    if inspect::low(n) <= inspect::low(n + 1) {
+        return 1;
+    }
+    if inspect::keys::nearest(n) <= inspect::keys::nearest(n + 1) {
+        2
+    } else {
+        3
+    }
 }
 
-// Block b of the file f as a new block with key k.
-pub fn stamp(img: &[u8], drive: usize, f: usize, b: usize, k: usize) -> [u8; 528]
-    requires { ⌜ (Block (now img) f) × (Block (now img) b) × (1 ≤ k) × (k < 33060) ⌝ }
-    ensures { λ r. ⌜ recOf r ≡ stamped drive (view (now (img .entry))) f b k ⌝ }
+// Whether key k is new.
+pub fn is_new(w: Append, k: usize) -> bool
+    requires { ⌜ w .n < reach ⌝ }
+    ensures { λ t. ⌜ ((l : List ℕ) → Appends w l → t ≡ isNew (w .p) (view l) (w .f) (w .n) k) ⌝ }
 {
-    let x = image::with_word(image::blank(), FILLER, image::word(img, b, FILLER));
+    let data = FIRST + w.n;
+    let pointer = inspect::up(data);
+    let double = inspect::up(pointer);
+    (k == data) | ((1 < w.m) & (k == pointer)) | ((2 < w.m) & (k == double))
+}
+
+// The block that a new key k gets.
+fn fresh(w: Append, k: usize) -> usize
+    requires { ⌜ w .n < reach ⌝ }
+    ensures { λ b. ⌜ ((l : List ℕ) → Appends w l → isNew (w .p) (view l) (w .f) (w .n) k ≡ true → b ≡ fresh (w .p) (view l) (w .f) (w .n) k) ⌝ }
+{
+    let data = FIRST + w.n;
+    if k == data {
+        return w.a;
+    }
+    if k == inspect::up(data) { w.q } else { w.d }
+}
+
+// Key k as a new block.
+pub fn stamp(img: &[u8], w: Append, k: usize) -> [u8; 528]
+    requires { ⌜ (Appends w (now img)) × (isNew (w .p) (view (now img)) (w .f) (w .n) k ≡ true) ⌝ }
+    ensures { λ r. ⌜ ((dat : Rec) → recOf r ≡ empty (w .p) (view (now (img .entry))) (w .f) (w .n) dat k) ⌝ }
+{
+    let p = w.p;
+    let filler = image::word(img, fresh(w, k), FILLER);
+    let x = image::with_word(image::blank(), FILLER, filler);
     let x = image::with_signed(x, RELATIVE, inspect::number_of(k));
-    image::with_pair(x, SERIAL, pda_of(drive, f))
+    image::with_pair(x, SERIAL, pda_of(p.drive, w.f))
 }
 
 // The block of key k afterwards.
 pub fn block_of(img: &[u8], w: Append, k: usize) -> usize
-    requires { ⌜ (Growing w (now img)) × (present′ (w .p) (view (now img)) (w .f) (w .n) k ≡ true) ⌝ }
+    requires { ⌜ (Appends w (now img)) × (present′ (w .p) (view (now img)) (w .f) (w .n) k ≡ true) ⌝ }
     ensures { λ b. ⌜ (b ≡ spot′ (w .p) (view (now (img .entry))) (w .f) (w .n) k) × (Block (now (img .entry)) b) ⌝ }
 {
-    if k == FIRST + w.n {
-        return w.a;
-    }
-    let new = grows(w.n) & (k == inspect::low(w.n + 1));
-    if new {
-        return w.q;
+    if is_new(w, k) {
+        return fresh(w, k);
     }
     inspect::spot(img, w.p, w.f, k)
 }
 
 // The link to key k afterwards, nil for 0.
 fn link_to(img: &[u8], w: Append, k: usize) -> usize
-    requires { ⌜ (Growing w (now img)) × ((0 < k) → (present′ (w .p) (view (now img)) (w .f) (w .n) k ≡ true)) ⌝ }
+    requires { ⌜ (Appends w (now img)) × ((0 < k) → (present′ (w .p) (view (now img)) (w .f) (w .n) k ≡ true)) ⌝ }
     ensures { λ r. ⌜ (r ≡ link′ (w .p) (view (now (img .entry))) (w .f) (w .n) k) × (r < 4294967296) ⌝ }
 {
     if k < 1 {
@@ -64,10 +94,10 @@ fn link_to(img: &[u8], w: Append, k: usize) -> usize
     pda_of(p.drive, block_of(img, w, k))
 }
 
-// The block of key k with the record x, linked to its neighbours.
+// The store of key k, which has the record x but for its links.
 pub fn key_save(img: &[u8], w: Append, k: usize, x: [u8; 528]) -> Save
-    requires { ⌜ (Growing w (now img)) × (present′ (w .p) (view (now img)) (w .f) (w .n) k ≡ true) ⌝ }
-    ensures { λ r. ⌜ StandsFor (now (img .entry)) (tied (w .p) (view (now (img .entry))) (w .f) (w .n) k (recOf x) ∷ []) r ⌝ }
+    requires { ⌜ (Appends w (now img)) × (present′ (w .p) (view (now img)) (w .f) (w .n) k ≡ true) ⌝ }
+    ensures { λ r. ⌜ ((dat : Rec) → recOf x ≡ body (w .p) (view (now (img .entry))) (w .f) (w .n) dat k → StandsFor (now (img .entry)) (store (w .p) (view (now (img .entry))) (w .f) (w .n) dat k ∷ []) r) ⌝ }
 {
     let below = inspect::prev_key(w.n + 1, k);
     let above = inspect::next_key(w.n + 1, k);

@@ -17,7 +17,7 @@ use Rattle.image.specs.Image.{recOf}
 use Rattle.volume.specs.Words.{slotAt, freeHeadAt, freeTailAt, numberFreeAt}
 use Rattle.volume.specs.Keys.{home, child, first}
 use Rattle.volume.specs.KeyLaws.{child-pair}
-use Rattle.volume.specs.Closed.{hasKey, entriesOf, entry-asked, has-pointers}
+use Rattle.volume.specs.Closed.{entriesOf, entry-asked}
 use Rattle.volume.specs.Plans.{trimmed, shaped}
 
 -- the PIB s of n free blocks from `first` to `last`
@@ -30,7 +30,7 @@ unfoldable pub cleared : ℕ → Rec → Rec
 cleared a r w = pick (leb a w) 0 (r w)
 
 -- pointer block k of a file with n blocks: the entries that L does not ask for begin at this word
-pub trimmed-is : (n k m : ℕ) (x : List ℕ) → m ≡ entriesOf n k → k ≤ 288 → trimmed n k (recOf x) ≡ cleared (slotAt m) (recOf x)
+pub trimmed-is : (n k m : ℕ) (x : List ℕ) → m ≡ entriesOf n k → k < home → trimmed n k (recOf x) ≡ cleared (slotAt m) (recOf x)
 unfolding trimmed cleared recOf
 trimmed-is n k m x e h = fun-ext (λ w. go w _ (ltb w 264) refl)
   where
@@ -61,10 +61,6 @@ trimmed-is n k m x e h = fun-ext (λ w. go w _ (ltb w 264) refl)
     go : (w y : ℕ) (t : Bool) → ltb w 264 ≡ t → pick (both (leb 8 w) (leb n (first (child k w)))) 0 (pick t y 0) ≡ pick (leb (slotAt m) w) 0 (pick t y 0)
     go w y true q = let l = ltb-true w 264 q in ap (λ (t : Bool). pick t 0 y) (iff-eq _ _ (there w l) (back w l))
     go w y false q = nil (both (leb 8 w) (leb n (first (child k w)))) (leb (slotAt m) w)
-
--- a key below the FIB's is a pointer block, of those that the FIB names
-pub pointer-key : (n k : ℕ) → n ≤ 4160 → hasKey n k ≡ true → k < home → k ≤ 288
-pointer-key n k s = has-pointers n s (hasKey n) (λ _. refl) k
 
 module _ (n k : ℕ) (r : Rec) where
   pub shaped-pointer : k < home → trimmed n k r ≡ shaped n k r

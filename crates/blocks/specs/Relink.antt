@@ -1,5 +1,5 @@
 -- What the code reads of an owned block's file is what the definition of its record speaks of.
-use mathlib.Core.Path.{_≡_, sym, ap, _∙_}
+use mathlib.Core.Path.{_≡_, ap, _∙_}
 use mathlib.Core.List.{List}
 use mathlib.Core.Bool.{true}
 use Prim.Native.Nat.{ℕ, _≤_, _<_}
@@ -7,11 +7,10 @@ use Rattle.drive.specs.Address.{pdaBlock}
 use Rattle.image.specs.View.{pair, put2}
 use Rattle.image.specs.Image.{view}
 use Rattle.volume.specs.Words.{serialAt, relativeAt, nextAt, previousAt}
-use Rattle.volume.specs.Keys.{keyOf}
+use Rattle.volume.specs.Keys.{reach, keyOf}
 use Rattle.volume.specs.Files.{len, present, candidate, fileOf, key, owned, above, below, link}
 use Rattle.volume.specs.declared.Partition.{Partition}
 use Rattle.volume.specs.Index.{own, file-candidate}
-use Rattle.volume.specs.Closed.{hasKey, present-closed}
 use Rattle.volume.specs.Plans.{shaped, content, relinked}
 use Rattle.inspect.specs.Parts.{Opened}
 use Rattle.inspect.proofs.Laws.{opened-few}
@@ -23,9 +22,8 @@ use Rattle.blocks.specs.Ready.{Ready}
 -- the definition's
 pub record Filed (π : Partition) (l : List ℕ) (b f n k : ℕ) : Type 0 where
   pub opened : Opened π l f
-  pub short : n ≤ 4160
+  pub short : n ≤ reach
   pub here : present π (view l) f k ≡ true
-  pub has : hasKey n k ≡ true
   pub next : link π (view l) f (above π (view l) f k) < 4294967296
   pub previous : link π (view l) f (below π (view l) f k) < 4294967296
   pub is : put2 nextAt (link π (view l) f (above π (view l) f k)) (put2 previousAt (link π (view l) f (below π (view l) f k)) (shaped n k (view l b))) ≡ relinked π (view l) b
@@ -50,7 +48,6 @@ module _ {π : Partition} {l : List ℕ} (b : ℕ) {x f : ℕ} (r : Ready π l) 
         opened = file-opened;
         short = rw hn (opened-few file-opened);
         here = here;
-        has = rw hn (sym (present-closed π (view l) f (file-opened .formed) k) ∙ here);
         next = rw (file-is, hk) (next-small π (view l) (r .lies .few) b o);
         previous = rw (file-is, hk) (prev-small π (view l) (r .lies .few) b o);
         is = rw (hn, file-is, hk);

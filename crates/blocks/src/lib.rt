@@ -8,7 +8,6 @@ ghost use Rattle.image.specs.View.{put, put2};
 ghost use Rattle.image.specs.Image.{view, recOf};
 ghost use Rattle.volume.specs.Words.{serialAt, fillerAt, nextAt, previousAt};
 ghost use Rattle.volume.specs.Files.{owned};
-ghost use Rattle.volume.specs.Closed.{hasKey};
 ghost use Rattle.volume.specs.Plans.{asFiller, trimmed, shaped, relinked};
 ghost use Rattle.blocks.specs.Records.{cleared, pibRecord};
 ghost use Rattle.blocks.specs.Ready.{Ready};
@@ -69,7 +68,7 @@ fn cleared(r: [u8; 528], w: usize) -> [u8; 528]
 
 // Pointer block k of a file with n blocks, the entries that L does not ask for nil.
 fn trimmed(r: [u8; 528], n: usize, k: usize) -> [u8; 528]
-    requires { ⌜ (n ≤ 4160) × (k ≤ 288) ⌝ }
+    requires { ⌜ (n ≤ 32767) × (k < 291) ⌝ }
     ensures { λ x. ⌜ recOf x ≡ trimmed n k (recOf r) ⌝ }
 {
     cleared(r, SLOTS + 2 * inspect::entries_of(n, k))
@@ -77,7 +76,7 @@ fn trimmed(r: [u8; 528], n: usize, k: usize) -> [u8; 528]
 
 // Block b as key k of its file, which has n blocks: a pointer block has its unused entries nil.
 fn content(img: &[u8], b: usize, n: usize, k: usize) -> [u8; 528]
-    requires { ⌜ (528 * b + 528 ≤ length (now img)) × (n ≤ 4160) × (hasKey n k ≡ true) ⌝ }
+    requires { ⌜ (528 * b + 528 ≤ length (now img)) × (n ≤ 32767) ⌝ }
     ensures { λ r. ⌜ recOf r ≡ shaped n k (view (now (img .entry)) b) ⌝ }
 {
     let x = image::record(img, b);

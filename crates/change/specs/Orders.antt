@@ -1,4 +1,4 @@
--- A changing call makes no two stores in one block, and all but repair make at most seven.
+-- A changing call makes no two stores in one block, and all but repair make at most ten.
 use mathlib.Core.Path.{_≡_, refl, ap}
 use mathlib.Core.Logic.{_≢_}
 use mathlib.Core.Bool.{Bool, true, false}
@@ -31,9 +31,9 @@ use Rattle.growth.specs.Promise.{Writing, write-few, write-once}
 use Rattle.change.specs.Gate.{gate, Opens, enters, shut}
 use Rattle.change.specs.Hits.{bit, hit, times, times-append, times-cons, times-none, hit-one, times-plan, length-plan, some-times, some-length, budget, free-two, free-last, file-hits}
 
--- at most seven stores, none twice in a block
+-- at most ten stores, none twice in a block
 pub record Orderly (ss : List Store) : Type 0 where
-  pub few : length ss ≤ 7
+  pub few : length ss ≤ 10
   pub once : (b : ℕ) → occ b (places ss) ≤ 1
 
 one-store : (x : Store) → Orderly (x ∷ [])

@@ -113,6 +113,5 @@ pub fn destroy_store(img: &mut [u8], drive: usize, s: usize, w: Release, limit: 
     let end = last_save(img, w.h, w.last, w.empty);
     let joint = tail_save(img, drive, w.tail, w.top);
     let pib = pib_more_save(img, drive, s, w.last, w.n);
-    let z = image::none();
-    image::perform(img, limit, fib, low, end, joint, pib, z, z)
+    image::perform(img, limit, fib, low, end, joint, pib)
 }

@@ -5,19 +5,21 @@ use mathlib.Core.Bool.{Bool, true, false, _||_, true≢false}
 use Prim.Native.Nat.{ℕ, suc, _+_, _≤_, _<_}
 use native.Mathlib.Omega.{arith}
 use lib.Dec.{ltb, eqb}
-use borrow.Author.Tests.{ltb-true, ltb-false, eqb-true, eqb-false}
+use borrow.Author.Tests.{ltb-true, ltb-false, eqb-true, eqb-false, lt-ltb}
 use Rattle.base.specs.Tests.{pick}
-use Rattle.base.specs.Laws.{never}
+use Rattle.base.specs.Laws.{never, iff-eq}
 use Rattle.image.specs.View.{View}
 use Rattle.volume.specs.Keys.{home, reach, first, low}
 use Rattle.volume.specs.KeyLaws.{asked-low, asked-high, low-home, first-data, first-pointer, first-doubles}
 use Rattle.volume.specs.Files.{inside, len, spot, present, key, owned}
 use Rattle.volume.specs.declared.Partition.{Partition}
 use Rattle.volume.specs.Index.{here-of, spot-home, present-home, wf-of, member, member-owned, key-back}
+use Rattle.volume.specs.Closed.{hasKey}
 use Rattle.volume.specs.Plans.{freeAt}
 use Rattle.volume.specs.Writes.{over, needs, isNew, fresh, present′, spot′}
 use Rattle.growth.specs.Ready.{Behind, Ready}
-use Rattle.growth.specs.Path.{or-left, or-right, or-split, over-zero, over-data, placed, needs-some, needs-two, new-at, new-gone, new-first, fresh-at, fresh-in, fresh-free, fresh-one}
+use Rattle.growth.specs.Path.{or-left, or-right, or-split, over-zero, over-data, over-double, placed, starts-new, new-at, new-gone, new-first, fresh-at}
+use Rattle.growth.specs.Room.{fresh-in, fresh-free, fresh-one}
 use Rattle.volume.specs.Reads.{off-pib}
 
 module _ (π : Partition) (v : View) (f r : ℕ) where
@@ -74,40 +76,42 @@ module _ (π : Partition) (v : View) (f r : ℕ) where
         go true q = let e = eqb-true k home q in (omega (arith, low-home (suc r)), omega arith)
         go false q = let a = asked′ k (eqb-false k home q) p in (asked-low k (suc r) a, asked-high k (suc r) a)
 
-    -- what is asked for is present: block r and, where it is the first of a pointer block, that block are new
+    -- what is asked for is present: a key of which block r is the first stands over block r, and is new
     pub full′ : (k : ℕ) → first k < suc r → present′ π v f r k ≡ true
     full′ k l = go (ltb (first k) (len v f)) refl
       where
-        data-key : home < k → r ≤ first k → present′ π v f r k ≡ true
-        data-key h m =
-            let e : k ≡ over r 0 = omega (arith, first-data k h, over-zero r) in
-            ap (present′ π v f r) e ∙ present-new (over r 0) (new-at π v f r ok 0 (needs-some π v f r))
+        place : (i : ℕ) → k ≢ home → first k ≡ r → k ≡ over r i → present′ π v f r k ≡ true
+        place i n m e =
+            ap (present′ π v f r) e
+            ∙ present-new (over r i) (new-at π v f r ok i (starts-new π v f r ok i (λ z. n (e ∙ z)) (ap first (sym e) ∙ m)))
 
-        pointer-key : k ≤ 288 → r ≤ first k → present′ π v f r k ≡ true
-        pointer-key h m = ap (present′ π v f r) e ∙ present-new (over r 1) (new-at π v f r ok 1 (omega (arith, needs-two π v f r ok absent)))
-          where
-            e : k ≡ over r 1
-            e = let g = first-pointer k h in let q : 64 ≤ r = omega (arith) in omega (arith, over-data r q)
-
-            n : over r 1 ≢ home
-            n z = omega (arith, e)
-
-            absent : present π v f (over r 1) ≡ false
-            absent = never _ (λ q. omega (arith, here-of π v f (over r 1) n q .asked, ap first e, ok .next))
-
-        last : r ≤ first k → (t : Bool) → ltb home k ≡ t → (u : Bool) → ltb 288 k ≡ u → (x : Bool) → eqb k home ≡ x → present′ π v f r k ≡ true
-        last m true p u q x y = data-key (ltb-true home k p) m
-        last m false p false q x y = pointer-key (ltb-false 288 k q) m
-        last m false p true q true y = ap (present′ π v f r) (eqb-true k home y) ∙ home-there
-        last m false p true q false y =
+        starts : k ≢ home → first k ≡ r → (t : Bool) → ltb home k ≡ t → (u : Bool) → ltb 288 k ≡ u → present′ π v f r k ≡ true
+        starts n m true p u q = let a = ltb-true home k p in place 0 n m (omega (arith, first-data k a, over-zero r))
+        starts n m false p true q =
             let a = ltb-true 288 k q in
-            let b = ltb-false home k p in
-            let c = eqb-false k home y in
-            absurd (omega (arith, first-doubles k (omega arith) (omega arith), len-short))
+            let b : k < home = omega (arith, n, ltb-false home k p) in
+            let c = first-doubles k a b in
+            place 2 n m (omega (arith, over-double r (omega arith) (ok .far)))
+        starts n m false p false q =
+            let a = ltb-false 288 k q in
+            let c = first-pointer k a in
+            place 1 n m (omega (arith, over-data r (omega arith)))
+
+        other : first k ≡ r → (t : Bool) → eqb k home ≡ t → present′ π v f r k ≡ true
+        other m true q = ap (present′ π v f r) (eqb-true k home q) ∙ home-there
+        other m false q = starts (eqb-false k home q) m (ltb home k) refl (ltb 288 k) refl
 
         go : (t : Bool) → ltb (first k) (len v f) ≡ t → present′ π v f r k ≡ true
         go true q = present-old k (wf-of π v f (ok .formed) .full k (ltb-true _ _ q))
-        go false q = last (omega (arith, ltb-false (first k) (len v f) q, ok .next)) (ltb home k) refl (ltb 288 k) refl (eqb k home) refl
+        go false q = other (omega (arith, ltb-false (first k) (len v f) q, ok .next)) (eqb k home) refl
+
+    -- so it has the keys of a file with r + 1 blocks
+    pub present′-closed : (k : ℕ) → present′ π v f r k ≡ hasKey (suc r) k
+    present′-closed k = go (eqb k home) refl
+      where
+        go : (t : Bool) → eqb k home ≡ t → present′ π v f r k ≡ (t || ltb (first k) (suc r))
+        go true q = ap (present′ π v f r) (eqb-true k home q) ∙ home-there
+        go false q = iff-eq _ _ (λ p. lt-ltb _ _ (asked′ k (eqb-false k home q) p)) (λ l. full′ k (ltb-true _ _ l))
 
     -- ---- old keys keep their blocks, and new ones get the first free blocks
 

@@ -19,7 +19,8 @@ use Rattle.volume.specs.Writes.{over, needs, isNew, fresh, present′, spot′,
 use Rattle.frame.specs.Soft.{tallyWord, headed, headed-rel, spare, spare-at, Soft}
 use Rattle.frame.specs.Turn.{Each, Calm, calm-soft, calm-free, Mine, mine-calm}
 use Rattle.growth.specs.Ready.{Ready}
-use Rattle.growth.specs.Path.{Placed, over-up, placed, new-absent, new-beyond, new-not-home, over-pos, over-few, new-inner, fresh-free}
+use Rattle.growth.specs.Path.{Placed, over-up, placed, new-absent, new-beyond, new-not-home, over-pos, over-few, new-inner}
+use Rattle.growth.specs.Room.{fresh-free}
 use Rattle.growth.specs.Lists.{All, mem}
 use Rattle.growth.specs.Afterwards.{present-new, present-old, present-split, spot-new, new-old, spot-is}
 use Rattle.growth.specs.Grown.{grown-off, grown-head, base-old, body-inner, entered-off, new-number}

@@ -120,7 +120,7 @@ module _ (π : Partition) (v : View) (f r : ℕ) (dat : Rec) (ok : Ready π v f 
       where
         gain : (t : Bool) → eqb (over r (needs π v f r)) home ≡ t → W (spot′ π v f r (over r (needs π v f r))) ≡ grown π v f r dat (over r (needs π v f r))
         gain true q = subst (λ (j : ℕ). W (spot′ π v f r j) ≡ grown π v f r dat j) (sym (eqb-true _ _ q)) (has home (home-there π v f r) home-has)
-        gain false q = has _ (present-old π v f r _ (held π v f r (ok .file))) (mem-left _ fr (home ∷ []) (o .gain (eqb-false _ _ q)))
+        gain false q = has _ (present-old π v f r _ (held π v f r)) (mem-left _ fr (home ∷ []) (o .gain (eqb-false _ _ q)))
 
   pub done-decided : Done π v f r dat ok decided
   done-decided = done decided stored-decided

@@ -1,5 +1,6 @@
 pub mod Ready
 pub mod Path
+pub mod Room
 pub mod Lists
 pub mod Afterwards
 pub mod Neighbours

@@ -58,6 +58,9 @@ mem-here k xs = ap (λ (t : Bool). t || mem k xs) (eq-eqb k k refl)
 pub mem-later : (k x : ℕ) (xs : List ℕ) → mem k xs ≡ true → mem k (x ∷ xs) ≡ true
 mem-later k x xs h = mem-right k (x ∷ []) xs h
 
+pub mem-pick : (k : ℕ) (t : Bool) (xs ys : List ℕ) → t ≡ true → mem k xs ≡ true → mem k (pick t xs ys) ≡ true
+mem-pick k t xs ys q h = ap (λ (u : Bool). mem k (pick u xs ys)) q ∙ h
+
 -- each number of the list once
 abbrev pub Distinct : List ℕ → Type 0
 Distinct [] = Unit {0}

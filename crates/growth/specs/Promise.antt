@@ -1,5 +1,5 @@
 -- What the write of an absent block owes: it decides at one store, leaves a sound partition, adds block r to the file and changes nothing else of it;
--- its stores by key, seven at most, each block once, each inside the partition and a record.
+-- its stores by key, ten at most, each block once, each inside the partition and a record.
 use mathlib.Core.Path.{_≡_, refl, sym, ap, _∙_, subst}
 use mathlib.Core.Logic.{inl, inr, _≢_}
 use mathlib.Core.List.{List, [], _∷_, _++_, map}
@@ -137,8 +137,8 @@ module _ (π : Partition) (v : View) (f r : ℕ) (W : Writing π v f r) where
         run-of [] t = tt
         run-of (k ∷ ks) t = (h k (t .0), run-of ks (t .1))
 
-    -- seven at most
-    pub write-few : length (stores (writePlan π v f r dat)) ≤ 7
+    -- ten at most
+    pub write-few : length (stores (writePlan π v f r dat)) ≤ 10
     unfolding takenStores
     write-few = omega (
       arith,

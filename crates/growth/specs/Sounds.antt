@@ -24,7 +24,8 @@ use Rattle.frame.specs.Sound.{sound-clean, sound-linked}
 use Rattle.frame.specs.FreeChain.{Links, links-of, sound-of, links-others}
 use Rattle.frame.specs.Drawn.{Taken, Drawn, left, drawn-free}
 use Rattle.growth.specs.Ready.{Tails, Ready, sound-tails}
-use Rattle.growth.specs.Path.{placed, new-at, fresh-at, fresh-free}
+use Rattle.growth.specs.Path.{placed, new-at, fresh-at}
+use Rattle.growth.specs.Room.{fresh-free}
 use Rattle.growth.specs.Afterwards.{present-new, present-old, present-split, spot-new, spot-is, apart-free}
 use Rattle.growth.specs.Kept.{entry-kept}
 use Rattle.growth.specs.Written.{Written, written-present, written-spot, written-formed}

@@ -24,7 +24,8 @@ use Rattle.volume.specs.Plans.{freeAt}
 use Rattle.volume.specs.Writes.{over, isNew, fresh, present′, spot′, above′, below′, least′, size′, lastAddress, lowAddress}
 use Rattle.drive.specs.Names.{lda-self, address-names}
 use Rattle.growth.specs.Ready.{Tails, Ready}
-use Rattle.growth.specs.Path.{over-zero, new-at, fresh-at, needs-some, new-first, new-up, fresh-in, home-old}
+use Rattle.growth.specs.Path.{over-zero, new-at, fresh-at, needs-some, new-first, new-up, home-old}
+use Rattle.growth.specs.Room.{fresh-in}
 use Rattle.growth.specs.Afterwards.{present-new, present-old, present-split, present-not, spot-new, spot-old, len-more, len-short, asked′, full′, new-old}
 use Rattle.growth.specs.Neighbours.{least′-there}
 

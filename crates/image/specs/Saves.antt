@@ -40,20 +40,16 @@ pub record Made (limit : ℕ) (ss : List Store) (l l′ : List ℕ) (n : ℕ) : 
   pub image : l′ ≡ stored (take limit ss) l
   pub count : n ≡ length (take limit ss)
 
-abbrev pub three : Save → Save → Save → List Store
-three a b c = saves a ++ (saves b ++ saves c)
-
-abbrev pub seven : Save → Save → Save → Save → Save → Save → Save → List Store
-seven a b c d e f g = saves a ++ (saves b ++ (saves c ++ (saves d ++ (saves e ++ (saves f ++ saves g)))))
+-- five stores, where they are on
+abbrev pub five : Save → Save → Save → Save → Save → List Store
+five a b c d e = saves a ++ (saves b ++ (saves c ++ (saves d ++ saves e)))
 
 abbrev pub Fit : List ℕ → Save → Type 0
 Fit l s = 528 * s .at + 528 ≤ length l
 
-pub record Within (l : List ℕ) (a b c d e f g : Save) : Type 0 where
+pub record Within (l : List ℕ) (a b c d e : Save) : Type 0 where
   pub a-in : Fit l a
   pub b-in : Fit l b
   pub c-in : Fit l c
   pub d-in : Fit l d
   pub e-in : Fit l e
-  pub f-in : Fit l f
-  pub g-in : Fit l g

@@ -10,7 +10,7 @@ ghost use Rattle.image.specs.View.{pair, put, put2, blank};
 ghost use Rattle.image.specs.Signed.{signed, wordOf};
 ghost use Rattle.image.specs.Image.{view, recOf};
 ghost use Rattle.image.specs.Stores.{bytesOf, lay, over};
-ghost use Rattle.image.specs.Saves.{when, saves, words, withData, withText, Applied, Made, seven, Within};
+ghost use Rattle.image.specs.Saves.{when, saves, words, withData, withText, Applied, Made, five, Within};
 
 // A byte as a number.
 pub fn wide(x: u8) -> usize
@@ -188,8 +188,28 @@ pub fn used(limit: usize, left: usize) -> usize
     if left < limit { limit - left } else { 0 }
 }
 
-// At most seven stores, in order, of which the first `limit` are made. Answers how many.
-pub fn perform(
+// Five stores under a limit, in order. Answers the room that is left.
+fn five(img: &mut [u8], left: usize, a: Save, b: Save, c: Save, d: Save, e: Save) -> usize
+    requires { ⌜ Within (now img) a b c d e ⌝ }
+    ensures { λ x. ⌜ Applied left (five a b c d e) (now (img .entry)) (now (img .exit)) x ⌝ }
+{
+    let x = step(img, left, a);
+    let x = step(img, x, b);
+    let x = step(img, x, c);
+    let x = step(img, x, d);
+    step(img, x, e)
+}
+
+// At most five stores, in order, of which the first `limit` are made. Answers how many.
+pub fn perform(img: &mut [u8], limit: usize, a: Save, b: Save, c: Save, d: Save, e: Save) -> usize
+    requires { ⌜ Within (now img) a b c d e ⌝ }
+    ensures { λ n. ⌜ Made limit (five a b c d e) (now (img .entry)) (now (img .exit)) n ⌝ }
+{
+    used(limit, five(img, limit, a, b, c, d, e))
+}
+
+// At most ten stores, in order, of which the first `limit` are made. Answers how many.
+pub fn perform_ten(
     img: &mut [u8],
     limit: usize,
     a: Save,
@@ -199,18 +219,15 @@ pub fn perform(
     e: Save,
     f: Save,
     g: Save,
+    h: Save,
+    i: Save,
+    j: Save,
 ) -> usize
-    requires { ⌜ Within (now img) a b c d e f g ⌝ }
-    ensures { λ n. ⌜ Made limit (seven a b c d e f g) (now (img .entry)) (now (img .exit)) n ⌝ }
+    requires { ⌜ (Within (now img) a b c d e) × (Within (now img) f g h i j) ⌝ }
+    ensures { λ n. ⌜ Made limit (five a b c d e ++ five f g h i j) (now (img .entry)) (now (img .exit)) n ⌝ }
 {
-    let x = step(img, limit, a);
-    let x = step(img, x, b);
-    let x = step(img, x, c);
-    let x = step(img, x, d);
-    let x = step(img, x, e);
-    let x = step(img, x, f);
-    let x = step(img, x, g);
-    used(limit, x)
+    let x = five(img, limit, a, b, c, d, e);
+    used(limit, five(img, x, f, g, h, i, j))
 }
 
 // No store.

@@ -1,26 +1,25 @@
 -- What an index that can be read and an open file give the code that reads them, and where a shown block lies. Assumes nothing.
 use mathlib.Core.Path.{_≡_, refl, sym, ap, ap₂, _∙_, subst}
-use mathlib.Core.Logic.{_⊎_, inl, inr, _≢_}
+use mathlib.Core.Logic.{_≢_}
 use mathlib.Core.List.{List, [], _∷_}
 use mathlib.Core.Bool.{Bool, true, false}
 use Prim.Native.Nat.{ℕ, _+_, _-_, _*_, _/_, _%_, _≤_, _<_}
 use native.Mathlib.Omega.{arith}
 use lib.Dec.{ltb, eqb}
 use lib.ListN.{length}
-use borrow.Author.Tests.{ltb-true, eqb-true, eqb-false}
+use borrow.Author.Tests.{ltb-true, ltb-false, eqb-true, eqb-false}
 use Rattle.base.specs.Tests.{every}
 use Rattle.drive.specs.Address.{pda, ldaBlock, isLda}
 use Rattle.drive.specs.Names.{lda-bits}
 use Rattle.image.specs.View.{View, pair}
 use Rattle.image.specs.Image.{view}
-use Rattle.volume.specs.Words.{dataOffset, relativeAt, slotAt, directAt, indirectAt}
-use Rattle.volume.specs.Keys.{home, reach, number, up, first, low}
-use Rattle.volume.specs.KeyLaws.{first-data, first-pointer, asked-closed, row-ptr, row-direct, row-data}
+use Rattle.volume.specs.Words.{dataOffset, relativeAt, slotAt, directAt}
+use Rattle.volume.specs.Keys.{home, reach, number, up, slot, low}
+use Rattle.volume.specs.KeyLaws.{up-data, up-home, first-data, low-pos, near-keys, row-direct, row-data}
 use Rattle.volume.specs.Files.{partitionOf, inside, serial, candidate, wellFormed, named, len, entry, spot, present, name, above, below, least}
 use Rattle.volume.specs.declared.Partition.{Partition}
-use Rattle.volume.specs.Index.{wf-of, here-of, spot-home, spot-step, entry-at, entry-fib, present-high}
+use Rattle.volume.specs.Index.{wf-of, here-of, present-home, spot-home, spot-step, entry-at, entry-fib, present-low, present-high}
 use Rattle.volume.specs.Order.{above-next, below-prev, least-present}
-use Rattle.volume.specs.Closed.{spot-direct, spot-data}
 use Rattle.volume.specs.Answers.{partition, shown, showIn}
 use Rattle.volume.specs.Reads.{inside-of, Lies, lies, candidate-in}
 use Rattle.volume.specs.declared.Part.{Part}
@@ -38,11 +37,10 @@ module _ (π : Partition) (v : View) (f : ℕ) where
       ap (λ (b : ℕ). every (isLda (π .drive) (entry π v f k) b ∷ inside π b ∷ eqb (serial v b) (pda (π .drive) f) ∷ eqb (v b relativeAt) (number k) ∷ []))
       (spot-step π v f k n)
 
-  -- pointer block i; block r below 64; entry j of pointer block i
-  pub named-ptr : (i : ℕ) → i < 32 → named π v f (288 - i) ≡ names π v (pda (π .drive) f) (pair v f (indirectAt i)) (number (288 - i))
-  named-ptr i l =
-      let w = row-ptr i l in
-      named-is (288 - i) (λ z. omega arith) ∙ ap (λ (x : ℕ). names π v (pda (π .drive) f) x (number (288 - i))) (entry-fib π v f (288 - i) (w .0) ∙ ap (pair v f) (w .1))
+  -- any key, by the block that holds its entry; block r below 64; entry j of pointer block i
+  pub named-held : {q : ℕ} (k : ℕ) → k ≢ home → q ≡ spot π v f (up k) → named π v f k ≡ names π v (pda (π .drive) f) (pair v q (slot k)) (number k)
+  named-held k n h =
+      named-is k n ∙ ap (λ (x : ℕ). names π v (pda (π .drive) f) x (number k)) (entry-at π v f k ∙ ap (λ (x : ℕ). pair v x (slot k)) (sym h))
 
   pub named-direct : (r : ℕ) → r < 64 → named π v f (292 + r) ≡ names π v (pda (π .drive) f) (pair v f (directAt r)) (number (292 + r))
   named-direct r l =
@@ -63,19 +61,17 @@ module _ (π : Partition) (v : View) (f : ℕ) where
       → r ≡ names π v own (pair v q (slotAt j)) (number (356 + 128 * i + j)) → r ≡ named π v f (292 + (64 + 128 * i + j))
   entry-is i j a b l h = rw (a, b) at h ∙ sym (named-entry i j l)
 
-  -- the block of a key, by the entry that code reads
-  pub spot-far : (k : ℕ) → 355 < k → spot π v f k ≡ ldaBlock (π .drive) (pair v (spot π v f (288 - (k - 356) / 128)) (slotAt ((k - 356) % 128)))
-  spot-far k l =
-      let z : k ≡ 292 + (k - 292) = omega arith in
-      let y : k - 292 - 64 ≡ k - 356 = omega arith in
-      ap (spot π v f) z ∙ spot-data π v f (k - 292) (omega arith)
-      ∙ ap (λ (x : ℕ). ldaBlock (π .drive) (pair v (spot π v f (288 - x / 128)) (slotAt (x % 128)))) y
+  -- the block of a key, by the entry in the block that holds it
+  pub spot-held : {q : ℕ} (k : ℕ) → k ≢ home → q ≡ spot π v f (up k) → spot π v f k ≡ ldaBlock (π .drive) (pair v q (slot k))
+  spot-held k n h = spot-step π v f k n ∙ ap (ldaBlock (π .drive)) (entry-at π v f k ∙ ap (λ (x : ℕ). pair v x (slot k)) (sym h))
 
-  pub spot-near : (k : ℕ) → home < k → k ≤ 355 → spot π v f k ≡ ldaBlock (π .drive) (pair v f (directAt (k - 292)))
-  spot-near k a b = let z : k ≡ 292 + (k - 292) = omega arith in ap (spot π v f) z ∙ spot-direct π v f (k - 292) (omega arith)
+  -- the FIB holds what it names
+  pub held-near : (k : ℕ) → 256 < k → k < 356 → f ≡ spot π v f (up k)
+  held-near k a b = sym (ap (spot π v f) (near-keys k (omega arith) b) ∙ spot-home π v f)
 
-  pub spot-low : (k : ℕ) → k ≤ 288 → spot π v f (288 - (288 - k)) ≡ spot π v f k
-  spot-low k l = ap (spot π v f) (let z : 288 - (288 - k) ≡ k = omega arith in z)
+-- the key over a data block from 64 on is a pointer block's
+pub up-data-most : {u : ℕ} (k : ℕ) → 355 < k → u ≡ up k → u < 291
+up-data-most k l h = omega (arith, h, up-data k l)
 
 -- ---- an index that can be read
 
@@ -92,11 +88,12 @@ module _ {π : Partition} {l : List ℕ} {f : ℕ} (o : Readable π l f) where
           inside-of π (spot π (view l) f k) (named-member π (view l) f k m .ins) .1
 
   -- and so its bits tell it
-  pub read-bits : (k x : ℕ) → present π (view l) f k ≡ true → k ≢ home → spot π (view l) f k ≡ ldaBlock (π .drive) x → x / 256 % 2097152 ≡ spot π (view l) f k
-  read-bits k x p n q =
+  pub read-bits : {q : ℕ} (k : ℕ) → present π (view l) f k ≡ true → k ≢ home → q ≡ spot π (view l) f (up k) → pair (view l) q (slot k) / 256 % 2097152 ≡ spot π (view l) f k
+  read-bits {q} k p n h =
+      let z = spot-held π (view l) f k n h in
       let m = asked-named π (view l) f (o .short) (o .good) k n (here-of π (view l) f k n p .asked) in
       let i = inside-of π (spot π (view l) f k) (named-member π (view l) f k m .ins) in
-      lda-bits (π .drive) x (rw q at (i .0)) (omega (arith, i .1, q, o .lies .few)) ∙ sym q
+      lda-bits (π .drive) (pair (view l) q (slot k)) (rw z at (i .0)) (omega (arith, i .1, z, o .lies .few)) ∙ sym z
 
   pub read-is : (b k : ℕ) → present π (view l) f k ≡ true → b ≡ spot π (view l) f k → (b ≡ spot π (view l) f k) × (b ≤ π .e)
   read-is b k p q = (q, rw q (read-in k p))
@@ -105,28 +102,40 @@ module _ {π : Partition} {l : List ℕ} {f : ℕ} (o : Readable π l f) where
   read-home k q = (sym (ap (spot π (view l) f) q ∙ spot-home π (view l) f), o .here)
 
   -- what code asks of a present key and of its holder
-  pub read-most : (k : ℕ) → present π (view l) f k ≡ true → k ≤ 4451
-  read-most k p = omega (arith, present-high π (view l) f k p, o .short)
+  pub read-few : (k : ℕ) → present π (view l) f k ≡ true → (1 ≤ k) × (k < 33060)
+  read-few k p = (omega (arith, present-low π (view l) f k p, low-pos (len (view l) f) (o .short)), omega (arith, present-high π (view l) f k p, o .short))
 
-  pub read-pointer : (k : ℕ) → present π (view l) f k ≡ true → k < home → (257 ≤ k) × (k ≤ 288)
-  read-pointer k p m = at (asked-closed (len (view l) f) k (o .short) a)
+  pub holder-there : (k : ℕ) → present π (view l) f k ≡ true → present π (view l) f (up k) ≡ true
+  holder-there k p = go (eqb k home) refl
     where
-      a : first k < len (view l) f
-      a = here-of π (view l) f k (λ z. omega arith) p .asked
+      go : (t : Bool) → eqb k home ≡ t → present π (view l) f (up k) ≡ true
+      go true q = ap (present π (view l) f) (ap up (eqb-true k home q) ∙ up-home) ∙ present-home π (view l) f
+      go false q = here-of π (view l) f k (eqb-false k home q) p .held
 
-      at : ((low (len (view l) f) ≤ k) × (k < 289)) ⊎ ((home ≤ k) × (k < 292 + len (view l) f)) → (257 ≤ k) × (k ≤ 288)
-      at (inl x) = let s = o .short in let h = x .1 in (omega (arith, a, first-pointer k (omega arith)), omega arith)
-      at (inr x) = absurd (omega (arith, x .0))
+  pub read-holder : (k : ℕ) → present π (view l) f k ≡ true → spot π (view l) f (up k) ≤ π .e
+  read-holder k p = read-in (up k) (holder-there k p)
 
-  pub holder-there : (k : ℕ) → present π (view l) f k ≡ true → 355 < k → present π (view l) f (288 - (k - 356) / 128) ≡ true
-  holder-there k p m =
-      let z : 292 + (k - 292) ≡ k = omega arith in
-      let y : 288 - (k - 292 - 64) / 128 ≡ 288 - (k - 356) / 128 = omega arith in
-      let u : up k ≡ 288 - (k - 356) / 128 = ap up (sym z) ∙ row-data (k - 292) (omega arith) .0 ∙ y in
-      subst (λ (x : ℕ). present π (view l) f x ≡ true) u (here-of π (view l) f k (λ z. omega arith) p .held)
+  -- the pointer block over data through which k is named, if there is one: its key u
+  module _ (k : ℕ) (p : present π (view l) f k ≡ true) {u : ℕ} (far : 355 < k → u ≡ up k) where
+    pub through-there : 355 < k → present π (view l) f u ≡ true
+    through-there h = subst (λ (x : ℕ). present π (view l) f x ≡ true) (sym (far h)) (holder-there k p)
 
-  pub read-holder : (k : ℕ) → present π (view l) f k ≡ true → 355 < k → spot π (view l) f (288 - (k - 356) / 128) ≤ π .e
-  read-holder k p m = read-in (288 - (k - 356) / 128) (holder-there k p m)
+    pub through-inner : 355 < k → u ≢ home
+    through-inner h z = omega (arith, z, up-data-most k h (far h))
+
+    pub through-pos : (k ≤ 355 → u ≡ k) → 1 ≤ u
+    through-pos near = go (ltb 355 k) refl
+      where
+        go : (t : Bool) → ltb 355 k ≡ t → 1 ≤ u
+        go true q = read-few u (through-there (ltb-true 355 k q)) .0
+        go false q = omega (arith, near (ltb-false 355 k q), read-few k p .0)
+
+  -- below block 4,160 the FIB names that pointer block, and u is read out of it
+  pub read-near : {u q : ℕ} (k : ℕ) → present π (view l) f k ≡ true → 355 < k → k ≤ 4451 → u ≡ up k → q ≡ pair (view l) f (slot u) / 256 % 2097152 → q ≡ spot π (view l) f (up k)
+  read-near {u} {q} k p a b h e =
+      let w = up-data k a in
+      e ∙ ap (λ (x : ℕ). pair (view l) f (slot x) / 256 % 2097152) h
+      ∙ read-bits (up k) (holder-there k p) (λ z. omega (arith, z, w)) (held-near π (view l) f (up k) (omega (arith, w)) (omega (arith, w)))
 
   -- the last and the first of the links
   pub read-last : (n : ℕ) → n ≡ len (view l) f → present π (view l) f (home + n) ≡ true
@@ -142,11 +151,11 @@ pub wf-opened : {π : Partition} {l : List ℕ} (f : ℕ) → Lies π l → f �
 wf-opened f i h w = record { lies = i; here = h; formed = w }
 
 module _ {π : Partition} {l : List ℕ} {f : ℕ} (o : Opened π l f) where
-  pub opened-few : len (view l) f ≤ 4160
+  pub opened-few : len (view l) f ≤ reach
   opened-few = wf-of π (view l) f (o .formed) .short
 
   -- what the reader of L asks for
-  pub opened-len : (528 * f + 528 ≤ length l) × (len (view l) f ≤ 4160)
+  pub opened-len : (528 * f + 528 ≤ length l) × (len (view l) f ≤ reach)
   opened-len = (omega (arith, o .here, o .lies .within), opened-few)
 
   -- block r below L + 1 is present

@@ -64,7 +64,7 @@ number-fits k h = rw (number-less k h) (sfits-widen {w = w16} {w′ = w32} tt (s
 pub number-of : (k : ℕ) → k < 33060 → toZ w32 (ofZ w32 (toZ w32 k -ℤ pos 292)) ≡ signed (number k)
 number-of k h = toZ-ofZ w32 _ (number-fits k h) ∙ number-less k h
 
--- L from -1 to 4,159
+-- L from -1 to 32,766
 pub last-below : (l : ℤ) → SFits w32 l → ltZ (toZ w32 (ofZ w32 l)) (negsuc 0) ≡ true → false ≡ lastGood l
 last-below l f h = go l (rw (toZ-ofZ w32 l f) at h)
   where
@@ -72,10 +72,10 @@ last-below l f h = go l (rw (toZ-ofZ w32 l f) at h)
     go (pos n) h = absurd (true≢false (sym h))
     go (negsuc n) h = sym (ne-eqb n 0 (λ j. let u = ltb-true 0 n h in omega arith))
 
-pub last-from : (l : ℤ) → SFits w32 l → ltZ (toZ w32 (ofZ w32 l)) (negsuc 0) ≡ false → leZ (toZ w32 (ofZ w32 l)) (pos 4159) ≡ lastGood l
+pub last-from : (l : ℤ) → SFits w32 l → ltZ (toZ w32 (ofZ w32 l)) (negsuc 0) ≡ false → leZ (toZ w32 (ofZ w32 l)) (pos 32766) ≡ lastGood l
 last-from l f h = rw (toZ-ofZ w32 l f) (go l (rw (toZ-ofZ w32 l f) at h))
   where
-    go : (l : ℤ) → ltZ l (negsuc 0) ≡ false → leZ l (pos 4159) ≡ lastGood l
+    go : (l : ℤ) → ltZ l (negsuc 0) ≡ false → leZ l (pos 32766) ≡ lastGood l
     go (pos n) h = refl
     go (negsuc n) h = sym (eq-eqb n 0 (let u = ltb-false 0 n h in omega arith))
 
@@ -88,11 +88,11 @@ module _ (l : ℤ) (f : SFits w32 l) (g : lastGood l ≡ true) where
       go (pos n) h = ap pos (omega arith)
       go (negsuc n) h = let z : n ≡ 0 = eqb-true n 0 h in rw z
 
-  pub next-few : blocksTo l ≤ 4160
+  pub next-few : blocksTo l ≤ 32767
   next-few = go l g
     where
-      go : (l : ℤ) → lastGood l ≡ true → blocksTo l ≤ 4160
-      go (pos n) h = omega (arith, leb-true n 4159 h)
+      go : (l : ℤ) → lastGood l ≡ true → blocksTo l ≤ 32767
+      go (pos n) h = omega (arith, leb-true n 32766 h)
       go (negsuc n) h = omega arith
 
   pub next-fits : SFits w32 (toZ w32 (ofZ w32 l) +ℤ pos 1)

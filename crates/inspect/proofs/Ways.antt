@@ -11,43 +11,63 @@ use lib.Bits.{bitOr, or-add-and, and-le-l, and-le-r}
 use lib.Dec.{ltb, leb, eqb}
 use lib.IntN.{ℤ}
 use borrow.Author.Needs.{needs}
-use borrow.Author.Tests.{ltb-false, lt-ltb, le-ltb, eq-eqb, ne-eqb, eqb-true, eqb-false}
+use borrow.Author.Tests.{ltb-true, ltb-false, lt-ltb, le-ltb, eq-eqb, ne-eqb, eqb-true, eqb-false}
 use Rattle.base.specs.Tests.{pick, both, every, all}
 use Rattle.base.specs.Laws.{all-of}
 use Rattle.image.specs.View.{View, pair}
 use Rattle.image.specs.Image.{view}
 use Rattle.image.specs.Signed.{signed}
 use Rattle.volume.specs.Words.{lastBlockAt}
-use Rattle.volume.specs.Keys.{home, reach, low}
-use Rattle.volume.specs.KeyLaws.{first-pointer, closed-ptr}
-use Rattle.volume.specs.Files.{wellFormed, len}
+use Rattle.volume.specs.Keys.{home, reach, up, low}
+use Rattle.volume.specs.KeyLaws.{first-up, first-pointer, low-pos, up-far, closed-ptr}
+use Rattle.volume.specs.Files.{wellFormed, len, spot}
 use Rattle.volume.specs.declared.Partition.{Partition}
-use Rattle.volume.specs.Steps.{every-no, and-true}
-use Rattle.volume.specs.Reads.{Lies}
+use Rattle.volume.specs.Steps.{every-no, and-true, both-no}
+use Rattle.volume.specs.Closed.{nearest, asked-near}
+use Rattle.volume.specs.Reads.{Lies, inside-of}
 use Rattle.inspect.specs.Numbers.{lastGood, blocksTo, last-good, blocks-to}
-use Rattle.inspect.specs.Form.{nilFrom, indexGood, nilsGood, numbersGood, formGood, form-closed}
+use Rattle.inspect.specs.Form.{nilFrom, doubleTest, doublesGood, entriesGood, indexGood, nilsGood, numbersGood, formGood, form-closed, named-member, double-named}
 use Rattle.inspect.specs.Parts.{Readable}
+use Rattle.inspect.proofs.Laws.{held-near}
 
 -- ---- how many pointer blocks n blocks need
 
-pub ptrs-few : (p n : ℕ) → p ≡ 289 - low n → n ≤ 4160 → p ≤ 32
+pub ptrs-few : (p n : ℕ) → p ≡ 289 - low n → n ≤ reach → p ≤ 256
 unfolding low
 ptrs-few p n q h = omega (arith, few (ltb 64 n))
   where
-    few : (t : Bool) → 257 ≤ pick t (289 - (n + 63) / 128) home
+    few : (t : Bool) → 33 ≤ pick t (289 - (n + 63) / 128) home
     few true = omega arith
     few false = omega arith
 
 pub ptrs-below : (p n i : ℕ) → p ≡ 289 - low n → i < p → 64 + 128 * i < n
 ptrs-below p n i q h = omega (arith, closed-ptr n (288 - i) (omega arith) (omega arith), first-pointer (288 - i) (omega arith))
 
-pub ptrs-enough : (p n : ℕ) → p ≡ 289 - low n → n ≤ 4160 → n ≤ 64 + 128 * p
+pub ptrs-enough : (p n : ℕ) → p ≡ 289 - low n → n ≤ reach → n ≤ 64 + 128 * p
 unfolding low
 ptrs-enough p n q h = go (ltb 64 n) refl q
   where
     go : (t : Bool) → ltb 64 n ≡ t → p ≡ 289 - pick t (289 - (n + 63) / 128) home → n ≤ 64 + 128 * p
     go true j r = omega arith
     go false j r = omega (arith, ltb-false 64 n j)
+
+-- the block that names a pointer block over data lies in the partition, where -2 and -3 are named well
+pub holder-in : (π : Partition) (v : View) (f p n i : ℕ) → p ≡ 289 - low n → n ≤ reach → i < p → f ≤ π .e → doublesGood π v f n ≡ true → spot π v f (up (288 - i)) ≤ π .e
+holder-in π v f p n i q s h e g = go (ltb 256 (288 - i)) refl
+  where
+    go : (t : Bool) → ltb 256 (288 - i) ≡ t → spot π v f (up (288 - i)) ≤ π .e
+    go true z = rw (← held-near π v f (288 - i) (ltb-true 256 (288 - i) z) (omega arith)) e
+    go false z =
+        let l = ltb-false 256 (288 - i) z in
+        let u = up-far (288 - i) l in
+        let o : 0 < 288 - i = omega (arith, low-pos n s) in
+        let a = closed-ptr n (288 - i) (omega arith) (omega arith) in
+        let b = first-up (288 - i) (λ x. omega (arith, x)) in
+        inside-of π _ (named-member π v f (up (288 - i)) (double-named π v f n g (up (288 - i)) (asked-near n (up (288 - i)) (omega (arith, u)) (omega arith)) (omega (arith, u)) (omega (arith, u))) .ins) .1
+
+-- the FIB names -2 and -3
+pub double-held : (π : Partition) (v : View) (f i : ℕ) → i < 2 → f ≤ π .e → spot π v f (up (290 - i)) ≤ π .e
+double-held π v f i l e = rw (← held-near π v f (290 - i) (omega arith) (omega arith)) e
 
 -- blocks below the next pointer block's are those of this one
 pub least-reach : (k a n j r : ℕ) → n ≡ pick (ltb (k - a) 128) (k - a) 128 → n ≤ j → r < k → r < a + 128 → r < a + j
@@ -59,8 +79,22 @@ least-reach k a n j r q l h u = go (ltb (k - a) 128) refl
 
 -- no blocks need no entry
 pub index-none : (π : Partition) (v : View) (f n : ℕ) → n ≡ 0 → true ≡ indexGood π v f n
-unfolding indexGood both all low
+unfolding indexGood doublesGood entriesGood both all low
 index-none π v f n h = rw (h)
+
+-- the others need of -2 and -3 those that are asked for, and then the rest
+module _ (π : Partition) (v : View) (f n : ℕ) where
+  pub doubles-is : {k : ℕ} {r : Bool} → k ≡ nearest n → r ≡ all (291 - k) (doubleTest π v f) → r ≡ true → doublesGood π v f n ≡ true
+  unfolding doublesGood
+  doubles-is h q t = sym (q ∙ ap (λ (x : ℕ). all (291 - x) (doubleTest π v f)) h) ∙ t
+
+  pub index-is : {r : Bool} → doublesGood π v f n ≡ true → r ≡ entriesGood π v f n → r ≡ indexGood π v f n
+  unfolding indexGood both
+  index-is h q = q ∙ sym (rw h)
+
+  pub index-not : {k : ℕ} {r : Bool} → k ≡ nearest n → r ≡ all (291 - k) (doubleTest π v f) → r ≡ false → false ≡ indexGood π v f n
+  unfolding indexGood doublesGood both
+  index-not h q t = sym (both-no _ _ (sym (q ∙ ap (λ (x : ℕ). all (291 - x) (doubleTest π v f)) h) ∙ t))
 
 -- ---- the walk that gathers the bits of the entries from k on
 
@@ -136,7 +170,7 @@ module _ (π : Partition) (v : View) (f : ℕ) (z : ℤ) (hz : z ≡ signed (v f
 
 -- and then its index can be read
 pub wf-readable : {π : Partition} {l : List ℕ} (f : ℕ) (z : ℤ) (n : ℕ) → Lies π l → f ≤ π .e → z ≡ signed (view l f lastBlockAt) → view l f lastBlockAt < 65536
-    → lastGood z ≡ true → (n ≡ blocksTo z) × (n ≤ 4160) → indexGood π (view l) f n ≡ true
+    → lastGood z ≡ true → (n ≡ blocksTo z) × (n ≤ reach) → indexGood π (view l) f n ≡ true
     → Readable π l f × (n ≡ len (view l) f)
 wf-readable {π} {l} f z n i h hz small good hn g =
     let q = len-is π (view l) f z hz small good n (hn .0) in

@@ -1,6 +1,6 @@
--- The closed form of well formed, for a file without holes and with one level of pointer blocks: what one pass over the index decides.
+-- The closed form of well formed, for a file without holes: what one pass over the index decides.
 use mathlib.Core.Path.{_≡_, refl, sym, ap, _∙_, subst}
-use mathlib.Core.Logic.{_⊎_, inl, inr, _≢_}
+use mathlib.Core.Logic.{inl, inr, _≢_}
 use mathlib.Core.List.{[], _∷_}
 use mathlib.Core.Bool.{Bool, true, false, _||_}
 use Prim.Native.Nat.{ℕ, zero, suc, _+_, _-_, _*_, _≤_, _<_}
@@ -14,12 +14,12 @@ use Rattle.drive.specs.Names.{lda-some}
 use Rattle.image.specs.View.{View, pair}
 use Rattle.volume.specs.Words.{relativeAt, directAt, indirectAt, doubleAt, inUseAt, lastAddressAt, lowNumberAt, lowAddressAt}
 use Rattle.volume.specs.Keys.{home, reach, number, up, slot, first, low}
-use Rattle.volume.specs.KeyLaws.{key-ind, first-up, first-data, first-doubles, low-pos, asked-low, fib-keys, last-asked, asked-closed, closed-ptr, row-direct, row-ptr, row-double}
+use Rattle.volume.specs.KeyLaws.{key-ind, first-up, first-data, first-doubles, low-pos, asked-low, fib-keys, last-asked, closed-ptr, row-direct, row-ptr, row-double}
 use Rattle.volume.specs.Files.{inside, serial, len, spot, present, entry, named, tally, wellFormed}
 use Rattle.volume.specs.declared.Partition.{Partition}
 use Rattle.volume.specs.Index.{WF, Member, wf-of, of-wf, or-at, or-of, here-of, of-here, present-home, named-of}
 use Rattle.volume.specs.Steps.{every-cons, every-nil}
-use Rattle.volume.specs.Closed.{sizeOf, first-key, least-closed, size-closed, present-full, least-full, size-full}
+use Rattle.volume.specs.Closed.{nearest, Among, sizeOf, asked-closed, near-asked, nearest-in, first-key, least-closed, size-closed, present-full, least-full, size-full}
 
 -- of the entries from word w of block f on, entry i is one of the first k, or nil
 abbrev pub nilFrom : View → ℕ → ℕ → ℕ → ℕ → Bool
@@ -30,8 +30,8 @@ unfoldable pub nilsGood : View → ℕ → ℕ → Bool
 nilsGood v f n =
     every (all 64 (nilFrom v f (directAt 0) n)
     ∷ all 32 (nilFrom v f (indirectAt 0) (289 - low n))
-    ∷ eqb (pair v f doubleAt) 0
-    ∷ eqb (pair v f (doubleAt + 2)) 0
+    ∷ (ltb 4160 n || eqb (pair v f doubleAt) 0)
+    ∷ (ltb 20544 n || eqb (pair v f (doubleAt + 2)) 0)
     ∷ [])
 
 -- the LDA x is that of a block of s+1..e with the serial `own` and the relative number rel
@@ -41,16 +41,25 @@ names π v own x rel =
     every (isLda (π .drive) x b ∷ inside π b ∷ eqb (serial v b) own ∷ eqb (v b relativeAt) rel ∷ [])
 
 module _ (π : Partition) (v : View) (f : ℕ) where
-  -- pointer block -(4+j) is named well; block r is
+  -- pointer block -(4+j) is named well; -2 or -3; block r
   abbrev pub pointerTest : ℕ → Bool
   pointerTest j = named π v f (288 - j)
+
+  abbrev pub doubleTest : ℕ → Bool
+  doubleTest i = named π v f (290 - i)
 
   abbrev pub dataTest : ℕ → Bool
   dataTest r = named π v f (292 + r)
 
-  -- n blocks and the pointer blocks that they need are named well
+  -- of -2 and -3 those that n blocks need are named well; the pointer blocks over data and the n blocks; all of them
+  unfoldable pub doublesGood : ℕ → Bool
+  doublesGood n = all (home - nearest n) doubleTest
+
+  unfoldable pub entriesGood : ℕ → Bool
+  entriesGood n = both (all (289 - low n) pointerTest) (all n dataTest)
+
   unfoldable pub indexGood : ℕ → Bool
-  indexGood n = both (all (289 - low n) pointerTest) (all n dataTest)
+  indexGood n = both (doublesGood n) (entriesGood n)
 
   -- blocks in use, last address, last negative number and its address are those of n blocks
   unfoldable pub numbersGood : ℕ → Bool
@@ -69,16 +78,26 @@ module _ (π : Partition) (v : View) (f : ℕ) where
 
 module _ (π : Partition) (v : View) (f n : ℕ) where
   index-ptr : indexGood π v f n ≡ true → (k : ℕ) → low n ≤ k → k < 289 → named π v f k ≡ true
-  unfolding indexGood
+  unfolding indexGood entriesGood
   index-ptr h k a b =
       let z : 288 - (288 - k) ≡ k = omega arith in
-      subst (λ (x : ℕ). named π v f x ≡ true) z (all-at _ _ (both-left _ _ h) (288 - k) (omega arith))
+      subst (λ (x : ℕ). named π v f x ≡ true) z (all-at _ _ (both-left _ _ (both-right _ _ h)) (288 - k) (omega arith))
+
+  pub double-named : doublesGood π v f n ≡ true → (k : ℕ) → nearest n ≤ k → k < home → 288 < k → named π v f k ≡ true
+  unfolding doublesGood
+  double-named h k a b c =
+      let z : 290 - (290 - k) ≡ k = omega arith in
+      subst (λ (x : ℕ). named π v f x ≡ true) z (all-at _ _ h (290 - k) (omega arith))
 
   index-data : indexGood π v f n ≡ true → (k : ℕ) → home < k → k ≤ home + n → named π v f k ≡ true
-  unfolding indexGood
+  unfolding indexGood entriesGood
   index-data h k a b =
       let z : 292 + (k - 292) ≡ k = omega arith in
-      subst (λ (x : ℕ). named π v f x ≡ true) z (all-at _ _ (both-right _ _ h) (k - 292) (omega arith))
+      subst (λ (x : ℕ). named π v f x ≡ true) z (all-at _ _ (both-right _ _ (both-right _ _ h)) (k - 292) (omega arith))
+
+  index-doubles : indexGood π v f n ≡ true → doublesGood π v f n ≡ true
+  unfolding indexGood
+  index-doubles h = both-left _ _ h
 
 -- an entry of the FIB that n blocks do not ask for is nil
 module _ (v : View) (f n : ℕ) (h : nilsGood v f n ≡ true) where
@@ -90,11 +109,11 @@ module _ (v : View) (f n : ℕ) (h : nilsGood v f n ≡ true) where
   unfolding nilsGood
   nil-pointer j l m = eqb-true _ _ (or-at (ltb j (289 - low n)) _ (all-at 32 _ (every-at _ h 1) j l) (le-ltb j (289 - low n) m))
 
-  nil-double : (i : ℕ) → i < 2 → pair v f (252 + 2 * i) ≡ 0
+  nil-double : (i : ℕ) → i < 2 → n ≤ 4160 + 16384 * i → pair v f (252 + 2 * i) ≡ 0
   unfolding nilsGood
-  nil-double zero l = eqb-true _ _ (every-at _ h 2)
-  nil-double (suc zero) l = eqb-true _ _ (every-at _ h 3)
-  nil-double (suc (suc i)) l = absurd (omega arith)
+  nil-double zero l m = eqb-true _ _ (or-at (ltb 4160 n) _ (every-at _ h 2) (le-ltb 4160 n m))
+  nil-double (suc zero) l m = eqb-true _ _ (or-at (ltb 20544 n) _ (every-at _ h 3) (le-ltb 20544 n m))
+  nil-double (suc (suc i)) l m = absurd (omega arith)
 
   nil-entry : (k : ℕ) → k ≢ home → up k ≡ home → n ≤ first k → pair v f (slot k) ≡ 0
   nil-entry k ne q l = go (ltb home k) refl (ltb 288 k) refl
@@ -112,7 +131,7 @@ module _ (v : View) (f n : ℕ) (h : nilsGood v f n ≡ true) where
           let m = ltb-true 288 k b in
           let o : k < 291 = omega (arith, ltb-false home k a, ne) in
           let z : 290 - (290 - k) ≡ k = omega arith in
-          ap (pair v f) (ap slot (sym z) ∙ row-double (290 - k) (omega arith) .1) ∙ nil-double (290 - k) (omega arith)
+          ap (pair v f) (ap slot (sym z) ∙ row-double (290 - k) (omega arith) .1) ∙ nil-double (290 - k) (omega arith) (omega (arith, l, first-doubles k m o))
       go false a false b =
           let m = ltb-false 288 k b in
           let z : 288 - (288 - k) ≡ k = omega arith in
@@ -139,11 +158,15 @@ module _ (π : Partition) (v : View) (f : ℕ) where
 
   module _ (short : len v f ≤ reach) (good : indexGood π v f (len v f) ≡ true) where
     pub asked-named : (k : ℕ) → k ≢ home → first k < len v f → named π v f k ≡ true
-    asked-named k n l = at (asked-closed (len v f) k short l)
+    asked-named k n l = at (asked-closed (len v f) k l)
       where
-        at : ((low (len v f) ≤ k) × (k < 289)) ⊎ ((home ≤ k) × (k < 292 + len v f)) → named π v f k ≡ true
+        at : Among (len v f) k → named π v f k ≡ true
         at (inl x) = index-ptr π v f (len v f) good k (x .0) (x .1)
-        at (inr x) = index-data π v f (len v f) good k (omega (arith, x .0)) (omega (arith, x .1))
+        at (inr x) = go (ltb home k) refl
+          where
+            go : (t : Bool) → ltb home k ≡ t → named π v f k ≡ true
+            go true q = index-data π v f (len v f) good k (ltb-true home k q) (x .1)
+            go false q = double-named π v f (len v f) (index-doubles π v f (len v f) good) k (x .0) (omega (arith, n, ltb-false home k q)) (omega (arith, x .0, nearest-in (len v f) .0))
 
     -- every key that L asks for is present, and no other but the FIB's
     asked-present : (k : ℕ) → first k < len v f → present π v f k ≡ true
@@ -197,12 +220,16 @@ module _ (π : Partition) (v : View) (f : ℕ) where
     w : WF π v f
     w = wf-of π v f h
 
+    formed-doubles : doublesGood π v f (len v f) ≡ true
+    unfolding doublesGood
+    formed-doubles = all-of _ _ (λ i l. named-of π v f w (290 - i) (λ z. omega (arith, z)) (w .full (290 - i) (near-asked (len v f) (290 - i) (omega (arith, l, nearest-in (len v f) .0)) (omega arith))))
+
     pub formed-index : indexGood π v f (len v f) ≡ true
-    unfolding indexGood
+    unfolding indexGood entriesGood
     formed-index =
-        both-of
+        both-of formed-doubles (both-of
         (all-of _ _ (λ j l. named-of π v f w (288 - j) (λ z. omega arith) (w .full (288 - j) (closed-ptr (len v f) (288 - j) (omega arith) (omega arith)))))
-        (all-of _ _ (λ r l. named-of π v f w (292 + r) (λ z. omega arith) (w .full (292 + r) (omega (arith, first-data (292 + r) (omega arith))))))
+        (all-of _ _ (λ r l. named-of π v f w (292 + r) (λ z. omega arith) (w .full (292 + r) (omega (arith, first-data (292 + r) (omega arith)))))))
 
     spare-pointer : (j : ℕ) → 289 - low (len v f) ≤ j → j < 32 → len v f ≤ first (288 - j)
     spare-pointer j a b = go (ltb (first (288 - j)) (len v f)) refl
@@ -216,7 +243,7 @@ module _ (π : Partition) (v : View) (f : ℕ) where
     formed-nils =
         every-cons _ (all-of 64 _ (λ r l. or-of (ltb r (len v f)) _ (λ q. eq-eqb _ _ (direct r l (ltb-false r _ q)))))
         (every-cons _ (all-of 32 _ (λ j l. or-of (ltb j (289 - low (len v f))) _ (λ q. eq-eqb _ _ (pointer j l (ltb-false j _ q)))))
-        (every-cons _ (eq-eqb _ _ (double 0 (omega arith))) (every-cons _ (eq-eqb _ _ (double 1 (omega arith))) every-nil)))
+        (every-cons _ (or-of (ltb 4160 (len v f)) _ (λ q. eq-eqb _ _ (double 0 (omega arith) (ltb-false 4160 _ q)))) (every-cons _ (or-of (ltb 20544 (len v f)) _ (λ q. eq-eqb _ _ (double 1 (omega arith) (ltb-false 20544 _ q)))) every-nil)))
       where
         direct : (r : ℕ) → r < 64 → len v f ≤ r → pair v f (60 + 2 * r) ≡ 0
         direct r l m =
@@ -228,10 +255,10 @@ module _ (π : Partition) (v : View) (f : ℕ) where
             let x = row-ptr j l in
             ap (pair v f) (sym (x .1)) ∙ w .nil (288 - j) (λ z. omega arith) (x .0) (spare-pointer j m l)
 
-        double : (i : ℕ) → i < 2 → pair v f (252 + 2 * i) ≡ 0
-        double i l =
+        double : (i : ℕ) → i < 2 → len v f ≤ 4160 + 16384 * i → pair v f (252 + 2 * i) ≡ 0
+        double i l m =
             let x = row-double i l in
-            ap (pair v f) (sym (x .1)) ∙ w .nil (290 - i) (λ z. omega arith) (x .0) (omega (arith, w .short, first-doubles (290 - i) (omega arith) (omega arith)))
+            ap (pair v f) (sym (x .1)) ∙ w .nil (290 - i) (λ z. omega arith) (x .0) (omega (arith, m, first-doubles (290 - i) (omega arith) (omega arith)))
 
     tally-numbers : tally π v f ≡ true → numbersGood π v f (len v f) ≡ true
     unfolding numbersGood tally

@@ -1,8 +1,11 @@
 // Whether a file is well formed.
 ghost use mathlib.Core.Path.{_≡_};
+ghost use mathlib.Core.Bool.{_||_};
 ghost use Prim.Native.Nat.{_+_, _*_, _≤_, _<_};
+ghost use lib.Dec.{ltb, eqb};
 ghost use lib.ListN.{length};
 ghost use Rattle.base.specs.Tests.{all};
+ghost use Rattle.image.specs.View.{pair};
 ghost use Rattle.image.specs.Image.{view};
 ghost use Rattle.volume.specs.Files.{len, wellFormed};
 ghost use Rattle.volume.specs.Reads.{Lies};
@@ -43,9 +46,20 @@ fn nil_from(img: &[u8], f: usize, w: usize, k: usize, n: usize) -> bool
     any == 0
 }
 
+// Whether a double entry of the FIB, that at word w, is asked for by n blocks, which is so beyond `first`, or nil.
+fn double_good(img: &[u8], f: usize, w: usize, first: usize, n: usize) -> bool
+    requires { ⌜ (528 * f + 528 ≤ length (now img)) × (w < 263) ⌝ }
+    ensures { λ a. ⌜ a ≡ (ltb first n || eqb (pair (view (now (img .entry))) f w) 0) ⌝ }
+{
+    if first < n {
+        return true;
+    }
+    image::pair(img, f, w) == 0
+}
+
 // Whether the entries of the FIB that n blocks do not need are nil.
 fn nils_good(img: &[u8], f: usize, n: usize) -> bool
-    requires { ⌜ (528 * f + 528 ≤ length (now img)) × (n ≤ 4160) ⌝ }
+    requires { ⌜ (528 * f + 528 ≤ length (now img)) × (n ≤ 32767) ⌝ }
     ensures { λ a. ⌜ a ≡ nilsGood (view (now (img .entry))) f n ⌝ }
 {
     if !nil_from(img, f, DIRECT, n, 64) {
@@ -54,10 +68,10 @@ fn nils_good(img: &[u8], f: usize, n: usize) -> bool
     if !nil_from(img, f, INDIRECT, drive::less(289, keys::low(n)), 32) {
         return false;
     }
-    if image::pair(img, f, DOUBLE) != 0 {
+    if !double_good(img, f, DOUBLE, 4160, n) {
         return false;
     }
-    image::pair(img, f, SECOND_DOUBLE) == 0
+    double_good(img, f, SECOND_DOUBLE, 20544, n)
 }
 
 // Whether the numbers and addresses of f, whose index is good, are those of its n blocks.

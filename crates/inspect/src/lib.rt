@@ -21,18 +21,25 @@ pub mod keys; // keys.rt: relative numbers in link order
 pub mod numbers; // numbers.rt: relative numbers
 
 pub use form::well_formed;
+pub use index::holder_of;
 pub use index::len;
 pub use index::name;
+pub use index::read;
 pub use index::spot;
 pub use keys::FIRST;
 pub use keys::HOME;
+pub use keys::POINTER;
 pub use keys::REACH;
 pub use keys::entries_of;
 pub use keys::has_key;
 pub use keys::low;
+pub use keys::nearest;
 pub use keys::next_key;
 pub use keys::prev_key;
 pub use keys::size_of;
+pub use keys::slot;
+pub use keys::stays;
+pub use keys::up;
 pub use numbers::blocks_to;
 pub use numbers::has_number;
 pub use numbers::is_number;

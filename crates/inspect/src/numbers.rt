@@ -53,20 +53,20 @@ pub fn key_of(n: i32) -> usize
     }
 }
 
-// Whether L is from -1 to 4,159.
+// Whether L is from -1 to 32,766.
 pub fn last_good(l: i32) -> bool
     ensures { λ r. ⌜ r ≡ lastGood l ⌝ }
 {
     if l < -1 {
         return false;
     }
-    l <= 4159
+    l <= 32766
 }
 
 // L + 1, for such an L.
 pub fn blocks_to(l: i32) -> usize
     requires { ⌜ lastGood l ≡ true ⌝ }
-    ensures { λ k. ⌜ (k ≡ blocksTo l) × (k ≤ 4160) ⌝ }
+    ensures { λ k. ⌜ (k ≡ blocksTo l) × (k ≤ 32767) ⌝ }
 {
     (l + 1) as usize
 }

@@ -16,12 +16,12 @@ use Rattle.drive.specs.Ranges.{blockOf, block-above}
 use Rattle.image.specs.View.{View, pair}
 use Rattle.image.specs.Image.{view}
 use Rattle.volume.specs.Words.{serialAt, relativeAt}
-use Rattle.volume.specs.Keys.{home, keyOf, low}
+use Rattle.volume.specs.Keys.{home, reach, keyOf, low}
 use Rattle.volume.specs.KeyLaws.{low-pos}
 use Rattle.volume.specs.Files.{candidate, isFile, len, spot, present, above, below, least, link, fileOf, key, owned}
 use Rattle.volume.specs.declared.Partition.{Partition}
 use Rattle.volume.specs.Index.{present-low, present-high}
-use Rattle.volume.specs.Closed.{hasKey, nextKey, prevKey, has-pointers, present-closed, above-closed, below-closed, least-closed}
+use Rattle.volume.specs.Closed.{hasKey, nextKey, prevKey, present-closed, above-closed, below-closed, least-closed}
 use Rattle.volume.specs.Answers.{Unmarred}
 use Rattle.volume.specs.Reads.{Lies, candidate-in}
 use Rattle.volume.specs.Steps.{both-no, both-no-2}
@@ -49,12 +49,8 @@ module _ {π : Partition} {l : List ℕ} {f : ℕ} (o : Opened π l f) (k : ℕ)
   pub key-few : k < 65536
   key-few = omega (arith, key-high, opened-few o)
 
-  -- a pointer block names data
-  pub key-pointer : k < home → k ≤ 288
-  key-pointer = has-pointers (len (view l) f) (opened-few o) (present π (view l) f) (present-closed π (view l) f (o .formed)) k p
-
 module _ {π : Partition} {l : List ℕ} {f n : ℕ} (o : Opened π l f) (q : n ≡ len (view l) f) where
-  pub len-few : n ≤ 4160
+  pub len-few : n ≤ reach
   len-few = omega (arith, q, opened-few o)
 
   -- what it has, the first of them, and which stands behind and before k
@@ -80,6 +76,11 @@ module _ (π : Partition) (v : View) (f k : ℕ) where
   pub link-is : {b y : ℕ} → k ≢ 0 → b ≡ spot π v f k → y ≡ pda (π .drive) b → y ≡ link π v f k
   unfolding link
   link-is n q j = j ∙ ap (pda (π .drive)) q ∙ sym (rw (ne-eqb k 0 n, link))
+
+-- a test that tells whether two numbers are equal
+pub tells-equal : (r : Bool) (x y : ℕ) → (r ≡ true → x ≡ y) → (r ≡ false → x ≢ y) → r ≡ eqb x y
+tells-equal true x y g h = sym (eq-eqb x y (g refl))
+tells-equal false x y g h = sym (ne-eqb x y (h refl))
 
 -- ---- the ways through `owned`, which reads the serial x, the file f whose PDA it is, and the key k
 

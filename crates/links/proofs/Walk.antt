@@ -3,25 +3,25 @@ use mathlib.Core.Path.{_≡_, refl, sym, ap, ap₂, _∙_}
 use mathlib.Core.Logic.{_≢_}
 use mathlib.Core.List.{List}
 use mathlib.Core.Bool.{Bool, true, false, true≢false, _&&_, _||_}
-use Prim.Native.Nat.{ℕ, _+_, _≤_, _<_}
+use Prim.Native.Nat.{ℕ, suc, _+_, _-_, _/_, _%_, _≤_, _<_}
 use native.Mathlib.Omega.{arith}
 use lib.Dec.{leb, ltb, eqb}
 use borrow.Author.Tests.{lt-ltb, le-ltb, ltb-true, ltb-false, eqb-true, eqb-false, eq-eqb, ne-eqb, le-leb, lt-leb}
-use Rattle.base.specs.Tests.{both, every, all}
+use Rattle.base.specs.Tests.{pick, both, every, all}
 use Rattle.drive.specs.Address.{pda}
 use Rattle.image.specs.View.{View, pair}
 use Rattle.image.specs.Image.{view}
 use Rattle.volume.specs.Words.{nextAt, previousAt, slotAt}
-use Rattle.volume.specs.Keys.{home, child, first, low}
+use Rattle.volume.specs.Keys.{home, up, slot, child, first, low}
 use Rattle.volume.specs.KeyLaws.{low-pos}
 use Rattle.volume.specs.Files.{len, spot, present, above, below, least, link, linkTest, tailTest, linked}
 use Rattle.volume.specs.declared.Partition.{Partition}
 use Rattle.volume.specs.Index.{span-at, span-of, present-low, present-high, spot-home}
 use Rattle.volume.specs.Order.{Next, prev-one, least-is, least-present, above-below, above-next, below-prev}
-use Rattle.volume.specs.Closed.{entriesOf, entry-asked}
+use Rattle.volume.specs.Closed.{stays, up-stays, nearest, nextKey, nearest-in, entriesOf, entry-asked}
 use Rattle.volume.specs.Steps.{every-no, Passed, pass-next, pass-fails, pass-end}
 use Rattle.inspect.specs.Parts.{Opened}
-use Rattle.inspect.proofs.Laws.{opened-few}
+use Rattle.inspect.proofs.Laws.{opened-few, opened-read, read-is, read-bits}
 use Rattle.links.proofs.Laws.{key-pos, first-is, next-is, link-nil, link-is}
 use Rattle.base.specs.Laws.{never, both-left}
 
@@ -34,11 +34,11 @@ Tail v n k q i = ltb (first (child k (slotAt i))) n || eqb (pair v q (slotAt i))
 -- the pass over those entries from the first that n blocks do not ask for: those below i are good
 pub record Tailing (v : View) (n k q i : ℕ) : Type 0 where
   pub passed : Passed (Tail v n k q) 128 i (all 128 (Tail v n k q))
-  pub low : k ≤ 288
+  pub low : k < home
   pub from : entriesOf n k ≤ i
 
 module _ {v : View} {n k q : ℕ} where
-  pub tail-starts : {m : ℕ} → k ≤ 288 → m ≡ entriesOf n k → m ≤ 128 → Tailing v n k q m
+  pub tail-starts : {m : ℕ} → k < home → m ≡ entriesOf n k → m ≤ 128 → Tailing v n k q m
   tail-starts h is a = record {
     passed = record { each = λ i l. rw (entry-asked n k i h (omega arith) ∙ lt-ltb i (entriesOf n k) (omega arith)); is = refl };
     low = h;
@@ -93,6 +93,32 @@ module _ (π : Partition) (v : View) (f k : ℕ) where
       go false c = refl
 
 -- ---- the walk
+
+-- block q names key k, where k is a data block's
+abbrev pub Held : Partition → View → ℕ → ℕ → ℕ → Type 0
+Held π v f q k = 291 < k → q ≡ spot π v f (up k)
+
+-- behind a data block the next key is the next number
+behind-data : (n k : ℕ) {j : ℕ} → j ≡ nextKey n k → 292 < j → j ≡ suc k
+behind-data n k {j} h l = go (eqb k 288) (ltb k (home + n)) h
+  where
+    go : (t u : Bool) → j ≡ pick t (nearest n) (pick u (suc k) 0) → j ≡ suc k
+    go true u e = absurd (omega (arith, e, l, nearest-in n .1))
+    go false true e = e
+    go false false e = absurd (omega (arith, e, l))
+
+-- so the block that names k names it too, where that stays
+pub held-on : (π : Partition) (v : View) (f n k : ℕ) {q j : ℕ} → Held π v f q k → j ≡ nextKey n k → stays j ≡ true → q ≡ spot π v f (up j)
+held-on π v f n k {q} {j} g h s =
+    let u = up-stays j s in
+    let z = behind-data n k h (u .0) in
+    let y : k ≡ j - 1 = omega (arith, z) in
+    g (omega (arith, z, u .0)) ∙ ap (λ (x : ℕ). spot π v f (up x)) y ∙ ap (spot π v f) (u .1)
+
+-- and what is read there is the block
+pub read-on : {π : Partition} {l : List ℕ} {f q c : ℕ} (o : Opened π l f) (j : ℕ) → present π (view l) f j ≡ true → stays j ≡ true → q ≡ spot π (view l) f (up j)
+    → c ≡ pair (view l) q (slot j) / 256 % 2097152 → (c ≡ spot π (view l) f j) × (c ≤ π .e)
+read-on o j p s h e = let r = opened-read o in read-is r _ j p (e ∙ read-bits r j p (λ z. omega (arith, z, up-stays j s .0)) h)
 
 -- each key before k has its links; k is present, b is its block, and the addresses of b and of the block before it are known
 pub record Linking (π : Partition) (l : List ℕ) (f k before b own : ℕ) : Type 0 where

@@ -105,7 +105,7 @@ fn leads(img: &[u8], p: Partition, b: usize, x: usize, c: usize, before: usize) 
 
 // Whether each entry of pointer block k, which is block q, is asked for by n blocks, or nil.
 fn tail_good(img: &[u8], n: usize, k: usize, q: usize) -> bool
-    requires { ⌜ (528 * q + 528 ≤ length (now img)) × (n ≤ 4160) × (k ≤ 288) ⌝ }
+    requires { ⌜ (528 * q + 528 ≤ length (now img)) × (n ≤ 32767) × (k < 291) ⌝ }
     ensures { λ r. ⌜ r ≡ all 128 (λ i. ltb (first (child k (slotAt i))) n || eqb (pair (view (now (img .entry))) q (slotAt i)) 0) ⌝ }
 {
     let used = inspect::entries_of(n, k);
@@ -118,7 +118,8 @@ fn tail_good(img: &[u8], n: usize, k: usize, q: usize) -> bool
 }
 
 // Whether the n blocks of f are linked in order, from key to key. At key k the walk has its block b, the address of b, and that of the
-// block before: a link that leads to a block is the block's address.
+// block before: a link that leads to a block is the block's address. Block q is the one that names k, where k is a data block's: it is
+// looked up once and not for each of its entries.
 fn linked_on(img: &[u8], p: Partition, f: usize, n: usize) -> bool
     requires { ⌜ (Opened p (now img) f) × (n ≡ len (view (now img)) f) ⌝ }
     ensures { λ r. ⌜ r ≡ linked p (view (now (img .entry))) f ⌝ }
@@ -127,6 +128,7 @@ fn linked_on(img: &[u8], p: Partition, f: usize, n: usize) -> bool
     let mut before: usize = 0;
     let mut b = inspect::spot(img, p, f, k);
     let mut own = drive::pda(p.drive, b);
+    let mut q = f;
     loop {
         if k < inspect::HOME {
             if !tail_good(img, n, k, b) {
@@ -137,7 +139,13 @@ fn linked_on(img: &[u8], p: Partition, f: usize, n: usize) -> bool
         if j == 0 {
             return link_good(img, b, 0, before);
         }
-        let c = inspect::spot(img, p, f, j);
+        let mut c = f;
+        if inspect::stays(j) {
+            c = inspect::read(img, q, j);
+        } else {
+            q = inspect::holder_of(img, p, f, j);
+            c = inspect::spot(img, p, f, j);
+        }
         let x = image::pair(img, b, NEXT);
         if !leads(img, p, b, x, c, before) {
             return false;

@@ -49,7 +49,7 @@ pub fn describe_store(img: &mut [u8], f: usize, text: &[u8], limit: usize) -> us
 {
     let fib = image::saved(f, image::with_text(image::record(img, f), text));
     let z = image::none();
-    image::perform(img, limit, fib, z, z, z, z, z, z)
+    image::perform(img, limit, fib, z, z, z, z)
 }
 
 // The store of replace: block b with other data.
@@ -59,7 +59,7 @@ pub fn replace_store(img: &mut [u8], b: usize, block: &[u8], limit: usize) -> us
 {
     let data = image::saved(b, image::with_data(image::record(img, b), block));
     let z = image::none();
-    image::perform(img, limit, data, z, z, z, z, z, z)
+    image::perform(img, limit, data, z, z, z, z)
 }
 
 // ---- allocation
@@ -120,5 +120,5 @@ pub fn create_store(
     let first = first_save(img, g);
     let pib = pib_less_save(img, drive, s, g, 1);
     let z = image::none();
-    image::perform(img, limit, fib, first, pib, z, z, z, z)
+    image::perform(img, limit, fib, first, pib, z, z)
 }

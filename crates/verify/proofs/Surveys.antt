@@ -12,7 +12,7 @@ use Rattle.volume.specs.Files.{blockAt, candidate, wellFormed, linked, isFile, 
 use Rattle.volume.specs.declared.Partition.{Partition}
 use Rattle.volume.specs.Answers.{lowestMalformed, Unmarred, checkIn, tallied}
 use Rattle.volume.specs.Index.{wf-of}
-use Rattle.volume.specs.Closed.{sizeOf, size-closed}
+use Rattle.volume.specs.Closed.{sizeOf, nearest-in, size-closed}
 use Rattle.frame.specs.Needed.{needs, needed, owned-needed}
 use Rattle.frame.specs.Sound.{tested}
 use Rattle.volume.specs.Steps.{both-no}
@@ -50,13 +50,9 @@ module _ (π : Partition) (v : View) where
     unfolding standing
     stands-file w l hn hm = sym (rw (both-of w l, hm ∙ ap sizeOf hn ∙ sym (size-closed π v f w), standing))
 
-    -- the blocks that a file's size is asked of
-    pub size-asks : {n : ℕ} → wellFormed π v f ≡ true → n ≡ len v f → n ≤ 4160
-    size-asks w h = omega (arith, h, wf-of π v f w .short)
-
   -- a file's size
-  size-few : (f : ℕ) → wellFormed π v f ≡ true → size π v f ≤ 4450
-  size-few f w = omega (arith, size-closed π v f w, wf-of π v f w .short)
+  size-few : (f : ℕ) → wellFormed π v f ≡ true → size π v f ≤ 33059
+  size-few f w = omega (arith, size-closed π v f w, wf-of π v f w .short, nearest-in (len v f) .0)
 
   -- the pass before block i of s+1..e
   pub record Passed (i files owned : ℕ) : Type 0 where
@@ -64,7 +60,7 @@ module _ (π : Partition) (v : View) where
     pub many : files ≡ count i (fileAt π v)
     pub few : files ≤ i
     pub blocks : owned ≡ sum i (sizeAt π v)
-    pub short : owned ≤ 4450 * i
+    pub short : owned ≤ 33059 * i
 
   pub pass-starts : Passed 0 0 0
   unfolding all count sum
@@ -112,7 +108,7 @@ module _ (π : Partition) (v : View) where
             short = omega (arith, p .short, t .1, size-few b w);
           })
 
-      pub file-short : (n : ℕ) → x ≡ stands.File n → n ≤ 4450
+      pub file-short : (n : ℕ) → x ≡ stands.File n → n ≤ 33059
       file-short n q =
           let t = told-file form (size π v b) n (sym at-i ∙ q) in
           omega (arith, t .1, size-few b (both-left (wellFormed π v b) (linked π v b) (t .0)))

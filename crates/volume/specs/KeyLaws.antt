@@ -1,6 +1,6 @@
--- The laws of keys. All arithmetic on 64, 128 and 4,160 is here.
+-- The laws of keys. All arithmetic on the rows of the index is here.
 use mathlib.Core.Path.{_≡_, refl, sym, ap, ap₂, _∙_, subst}
-use mathlib.Core.Logic.{_⊎_, inl, inr, _≢_}
+use mathlib.Core.Logic.{_≢_}
 use mathlib.Core.Bool.{Bool, true, false}
 use Prim.Native.Nat.{ℕ, zero, suc, _+_, _-_, _*_, _/_, _%_, _≤_, _<_}
 use native.Mathlib.Omega.{arith}
@@ -246,11 +246,11 @@ number-fib k h q = omega arith
 
 -- ---- the entries of a pointer block
 
-up-far : (c : ℕ) → c ≤ 256 → up c ≡ 290 - (256 - c) / 128
+pub up-far : (c : ℕ) → c ≤ 256 → up c ≡ 290 - (256 - c) / 128
 unfolding up
 up-far c a = simp (le-ltb 355 c (omega arith), le-ltb 256 c a)
 
-up-data : (c : ℕ) → 355 < c → up c ≡ 288 - (c - 356) / 128
+pub up-data : (c : ℕ) → 355 < c → up c ≡ 288 - (c - 356) / 128
 unfolding up
 up-data c a = simp (lt-ltb 355 c a)
 
@@ -278,11 +278,11 @@ child-of q w p h l m = go (ltb 288 q) refl
         let c = child-ptr q w a in
         (ap up c ∙ up-data (356 + 128 * (288 - q) + (w - 8) / 2) (omega arith) ∙ near-up q ((w - 8) / 2) a (omega arith), (omega arith, omega arith))
 
-slot-far : (c : ℕ) → c ≤ 256 → slot c ≡ 8 + 2 * ((256 - c) % 128)
+pub slot-far : (c : ℕ) → c ≤ 256 → slot c ≡ 8 + 2 * ((256 - c) % 128)
 unfolding slot
 slot-far c a = simp (le-ltb 355 c (omega arith), le-ltb 291 c (omega arith), le-ltb 288 c (omega arith), le-ltb 256 c a)
 
-slot-data : (c : ℕ) → 355 < c → slot c ≡ 8 + 2 * ((c - 356) % 128)
+pub slot-data : (c : ℕ) → 355 < c → slot c ≡ 8 + 2 * ((c - 356) % 128)
 unfolding slot
 slot-data c a = simp (lt-ltb 355 c a)
 
@@ -330,12 +330,6 @@ child-pair q w x h e = go (ltb 288 q) refl
     go true z = let a = ltb-true 288 q z in child-double q w a h ∙ ap (λ (y : ℕ). 256 - 128 * (290 - q) - y) e ∙ sym (child-double q x a h)
     go false z = let a = ltb-false 288 q z in child-ptr q w a ∙ ap (λ (y : ℕ). 356 + 128 * (288 - q) + y) e ∙ sym (child-ptr q x a)
 
--- ---- paths of two blocks
-
-up-direct : (k : ℕ) → 291 < k → k ≤ 355 → up k ≡ home
-unfolding up
-up-direct k a b = simp (le-ltb 355 k b, lt-ltb 256 k (omega arith))
-
 -- ---- rows of the index, by number
 
 pub row-direct : (r : ℕ) → r < 64 → (up (292 + r) ≡ home) × (slot (292 + r) ≡ 60 + 2 * r)
@@ -352,18 +346,7 @@ pub row-ptr : (j : ℕ) → j < 32 → (up (288 - j) ≡ home) × (slot (288 - j
 row-ptr j l = rows (λ u w _ _. (u ≡ home) × (w ≡ 188 + 2 * j)) (288 - j)
     (λ a. absurd (omega arith)) (λ a b. absurd (omega arith)) (λ a b. absurd (omega arith)) (λ a. absurd (omega arith)) (λ a b. absurd (omega arith)) (λ a b. (refl, omega arith)) (λ a. absurd (omega arith))
 
--- what a file without holes and with at most 4,160 blocks asks for, p being its pointer blocks
-pub asked-closed : (n k : ℕ) → n ≤ 4160 → first k < n → ((low n ≤ k) × (k < 289)) ⊎ ((home ≤ k) × (k < 292 + n))
-asked-closed n k s h = go (ltb k 289) refl
-  where
-    go : (t : Bool) → ltb k 289 ≡ t → ((low n ≤ k) × (k < 289)) ⊎ ((home ≤ k) × (k < 292 + n))
-    go true q = inl (asked-low k n h, ltb-true k 289 q)
-    go false q = inr (far k n (ltb-false k 289 q) s h, omega (arith, asked-high k n h))
-      where
-        far : (k n : ℕ) → 289 ≤ k → n ≤ 4160 → first k < n → home ≤ k
-        far k n l s = rows (λ _ _ g _. g < n → home ≤ k) k
-            (λ a h. omega arith) (λ a b h. omega arith) (λ a b h. omega arith) (λ a h. omega arith) (λ a b h. absurd (omega arith)) (λ a b h. absurd (omega arith)) (λ a h. absurd (omega arith))
-
+-- the pointer blocks over data from the least key on are asked for
 pub closed-ptr : (n k : ℕ) → low n ≤ k → k < 289 → first k < n
 unfolding low
 closed-ptr n k a b = go (ltb 64 n) refl a
@@ -376,10 +359,22 @@ pub row-double : (i : ℕ) → i < 2 → (up (290 - i) ≡ home) × (slot (290 -
 row-double i l = rows (λ u w _ _. (u ≡ home) × (w ≡ 252 + 2 * i)) (290 - i)
     (λ a. absurd (omega arith)) (λ a b. absurd (omega arith)) (λ a b. absurd (omega arith)) (λ a. absurd (omega arith)) (λ a b. (refl, omega arith)) (λ a b. absurd (omega arith)) (λ a. absurd (omega arith))
 
--- entry i of a pointer block over data
+-- entry i of a pointer block is that of i keys on, or back: of data, or of pointer blocks
 pub child-data : (k i : ℕ) → k ≤ 288 → child k (slotAt i) ≡ 356 + 128 * (288 - k) + i
 unfolding child
 child-data k i a = simp (ne-eqb k 291 (λ z. omega arith), le-ltb 288 k (omega arith)) (omega arith)
 
-pub child-first : (k i : ℕ) → k ≤ 288 → first (child k (slotAt i)) ≡ first k + i
-child-first k i a = ap first (child-data k i a) ∙ first-data (356 + 128 * (288 - k) + i) (omega arith) ∙ omega (arith, first-pointer k a)
+child-pointer : (k i : ℕ) → 288 < k → k < home → child k (slotAt i) ≡ 256 - 128 * (290 - k) - i
+child-pointer k i a b = child-double k (8 + 2 * i) a b ∙ ap (λ (x : ℕ). 256 - 128 * (290 - k) - x) (let z : (8 + 2 * i - 8) / 2 ≡ i = omega arith in z)
+
+-- the blocks that an entry of pointer block k leads to begin so far behind those of the entry before it
+pub child-first : (k i : ℕ) → k < home → i < 128 → first (child k (slotAt i)) ≡ first k + pick (ltb 288 k) (128 * i) i
+child-first k i a l = go (ltb 288 k) refl
+  where
+    go : (t : Bool) → ltb 288 k ≡ t → first (child k (slotAt i)) ≡ first k + pick t (128 * i) i
+    go true q =
+        let b = ltb-true 288 k q in
+        ap first (child-pointer k i b a) ∙ omega (arith, first-pointer (256 - 128 * (290 - k) - i) (omega arith), first-doubles k b a)
+    go false q =
+        let b = ltb-false 288 k q in
+        ap first (child-data k i b) ∙ first-data (356 + 128 * (288 - k) + i) (omega arith) ∙ omega (arith, first-pointer k b)

@@ -17,7 +17,7 @@ number k = (k + 65244) % 65536
 
 -- how far the index reaches: L + 1 is at most this
 abbrev pub reach : ℕ
-reach = 4160
+reach = 32767
 
 -- the key of the block that names k: a pointer block -(4+j) names blocks 64+128j on; the FIB names blocks 0 to 63, -2, -3 and -4 to -35; -2
 -- names -36 to -163 and -3 names -164 to -291

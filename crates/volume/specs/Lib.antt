@@ -1,11 +1,13 @@
 pub mod Words
 pub mod Search
 pub mod Keys
+pub mod Places
 pub mod Files
 pub mod Answers
 pub mod Plans
 pub mod Writes
 pub mod Calls
+pub mod Edges
 pub mod KeyLaws
 pub mod Index
 pub mod Order

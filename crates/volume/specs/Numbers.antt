@@ -105,8 +105,8 @@ seen =
     let u = after (take 1 w) v₂ in
     let u′ = after (repairIn seven u .list) u in
     outcomeOf (showIn seven v₃ 2 1)
-    ∷ outcomeOf (showIn seven v₃ 2 4159)
-    ∷ outcomeOf (showIn seven v₃ 2 4160)
+    ∷ outcomeOf (showIn seven v₃ 2 32766)
+    ∷ outcomeOf (showIn seven v₃ 2 32767)
     ∷ header v₃ 2
     ∷ header v₃ 3
     ∷ header v₃ 4

@@ -3,7 +3,7 @@
 -- follows from them by hand, and `worked` says that they are equal.
 use mathlib.Core.Path.{_≡_, refl}
 use mathlib.Core.List.{List, [], _∷_, _++_}
-use Prim.Native.Nat.{ℕ, _+_, _-_, _/_, _%_}
+use Prim.Native.Nat.{ℕ, _+_, _/_, _%_}
 use lib.Dec.{eqb}
 use lib.ListN.{take}
 use Rattle.base.specs.Tests.{pick, both, every, tabFrom, headOf, lastOf, those, all, count, occ, sameRow, sameTable}
@@ -26,6 +26,7 @@ use Rattle.volume.specs.declared.Partition.{Partition}
 use Rattle.volume.specs.Answers.{lowest, lowestMalformed, tallied, checkIn, partGood, endOf}
 use Rattle.volume.specs.Plans.{newFirst, pibLess, freshFib, gone, topGone, fibGone, topGoneStores, lastGoneStores, pibMore, destroyed, trimmed, shaped, stores, freeAt, takenStores, createPlan, describePlan, destroyPlan, content, relinked, freed, repaired, repairedPib, repairPlan}
 use Rattle.volume.specs.Writes.{put2If, over, counted, inner, needs, isNew, fresh, present′, spot′, above′, below′, least′, size′, link′, early, empty, base, entered, ended, body, grown, planOf, writePlan, replacePlan}
+use Rattle.volume.specs.Places.{minus, namedBy}
 use Rattle.volume.specs.Calls.{Planned, createIn, appendIn, writeIn, describeIn, destroyIn, repairIn}
 use Rattle.volume.specs.declared.Outcome.{Outcome}
 use Rattle.volume.specs.declared.Outcome.the-variants.{Done, Absent, Refused}
@@ -48,14 +49,6 @@ outcomeOf (Refused y) = 2 ∷ refusals.number y ∷ []
 -- the answer of a changing call, then the blocks that it stores in order, then the place of the deciding one
 abbrev pub rowOf : Planned → List ℕ
 rowOf p = outcomeOf (p .outcome) ++ (places (p .list) ++ p .deciding)
-
--- the relative number of the pointer block that names block r, and the word of the entry
-abbrev pub pointerOf : ℕ → List ℕ
-pointerOf r = number (up (292 + r)) ∷ slot (292 + r) ∷ []
-
--- the word of the relative number -n
-abbrev pub minus : ℕ → ℕ
-minus n = 65536 - n
 
 -- drive 0, partition 1..7
 abbrev pub seven : Partition
@@ -120,9 +113,9 @@ table =
     ∷ twoWords (lbnToPda 3 431)
     ∷ oneNumber (lbnToFileId 3 431)
     ∷ oneNumber (lbnToFileId 2 57344)
-    ∷ pointerOf 191
-    ∷ pointerOf 192
-    ∷ pointerOf 4159
+    ∷ namedBy 191
+    ∷ namedBy 192
+    ∷ namedBy 4159
     ∷ free seven v₀
     ∷ rowOf c
     ∷ rowOf w₀

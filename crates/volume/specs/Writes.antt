@@ -1,7 +1,7 @@
 -- Write of the block behind the last: which blocks are new, what every block of the file holds afterwards, and, apart from that, the order
 -- of the stores.
 use mathlib.Core.Bool.{Bool, _||_}
-use mathlib.Core.List.{List, [], _∷_, map}
+use mathlib.Core.List.{List, [], _∷_, _++_, map}
 use Prim.Native.Nat.{ℕ, zero, suc, _+_, _-_}
 use lib.Dec.{leb, eqb}
 use Rattle.base.specs.Tests.{pick, both, count}
@@ -71,10 +71,15 @@ module _ (π : Partition) (v : View) where
     unfoldable pub link′ : ℕ → ℕ
     link′ k = pick (eqb k 0) 0 (pda (π .drive) (spot′ k))
 
-    -- the keys whose stores come before the FIB's: the data block, the pointer block over it, the old last block, and the old first
-    -- one where a pointer block is new; but for the FIB
+    -- the keys whose stores come before the FIB's, but for the FIB: the data block; the pointer block over it; -2 or -3 where it is new or
+    -- gains an entry; the neighbours of a new one, below and above; the old last block; the old first one where a pointer block is new
     unfoldable pub early : List ℕ
-    early = over r 0 ∷ inner (over r 1 ∷ (end v f ∷ pick (leb 2 needs) (least π v f ∷ []) []))
+    early =
+        over r 0 ∷ inner (over r 1
+        ∷ pick (leb 2 needs) (over r 2 ∷ []) []
+        ++ pick (leb 3 needs) (below′ (over r 2) ∷ above′ (over r 2) ∷ []) []
+        ++ end v f
+        ∷ pick (leb 2 needs) (least π v f ∷ []) [])
 
     -- the last address and the last negative address
     abbrev pub lastAddress : ℕ

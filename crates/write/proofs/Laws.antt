@@ -1,11 +1,10 @@
 -- The ways through write: what it comes to, and where the blocks of an append lie.
-use mathlib.Core.Path.{_≡_, sym, ap, _∙_}
+use mathlib.Core.Path.{_≡_, refl, ap, _∙_}
 use mathlib.Core.List.{List}
-use mathlib.Core.Bool.{Bool, true, false}
+use mathlib.Core.Bool.{true, false}
 use Prim.Native.Nat.{ℕ, _≤_, _<_}
 use native.Mathlib.Omega.{arith}
 use borrow.Author.Tests.{lt-ltb, le-ltb, eq-eqb, ne-eqb, le-leb, lt-leb}
-use Rattle.base.specs.Tests.{pick}
 use Rattle.base.specs.declared.Refusal.the-variants.{NoCandidate, BadBlock, Full}
 use Rattle.drive.specs.Address.{pdaBlock}
 use Rattle.image.specs.View.{View, Rec, pair}
@@ -18,9 +17,7 @@ use Rattle.volume.specs.Plans.{freeAt}
 use Rattle.volume.specs.Writes.{over, needs, writePlan, replacePlan}
 use Rattle.volume.specs.Calls.{refuse, finish, room, appendIn, writeIn}
 use Rattle.records.specs.Records.{Block, replaced}
-use Rattle.append.specs.Numbers.{grows}
-use Rattle.append.specs.Grown.{takes, needs-is}
-use Rattle.append.specs.Growing.{Appends}
+use Rattle.append.specs.Appends.{Appends}
 use Rattle.change.specs.Gate.{Opens}
 use Rattle.change.proofs.Laws.{block-pib, block-fib, block-head, block-free-at, free-first, free-next, file-opened}
 
@@ -58,56 +55,48 @@ module _ (π : Partition) (v : View) (f r : ℕ) (dat : Rec) where
 
 -- ---- append: n blocks; r free blocks, of which it takes m
 
-one-or-two : (t : Bool) (m : ℕ) → m ≡ pick t 2 1 → 1 ≤ m
-one-or-two true m h = omega arith
-one-or-two false m h = omega arith
+-- the free block with place i is the first left once i are taken
+pub left-is : (π : Partition) (v : View) (i m b : ℕ) → b ≡ freeAt π v i → i ≤ m → m ≤ i → b ≡ freeAt π v m
+left-is π v i m b h p q = h ∙ ap (freeAt π v) (let z : i ≡ m = omega arith in z)
 
-module _ {π : Partition} {l : List ℕ} (o : Opens π l) (f n : ℕ) (c : candidate π (view l) f ≡ true)
-    (hn : n ≡ len (view l) f) (far : n < 4160) (t : Bool) (m r : ℕ) (ht : t ≡ grows n) (hm : m ≡ pick t 2 1) (hr : r ≡ room π (view l)) where
-  takes-is : m ≡ takes n
-  takes-is = hm ∙ ap (λ (u : Bool). pick u 2 1) ht
-
-  needed : m ≡ needs π (view l) f n
-  needed = takes-is ∙ sym (needs-is π (view l) f n (file-opened o f c .formed) hn far)
-
+module _ {π : Partition} {l : List ℕ} (o : Opens π l) (f n m r : ℕ) (hm : m ≡ needs π (view l) f n) (hr : r ≡ room π (view l)) where
   pub append-few : (dat : Rec) → r ≤ m → appendIn π (view l) f n dat ≡ refuse Full
   unfolding appendIn
-  append-few dat h = rw (appendIn, le-leb (room π (view l)) (needs π (view l) f n) (omega (arith, needed)))
+  append-few dat h = rw (appendIn, le-leb (room π (view l)) (needs π (view l) f n) (omega arith))
 
   pub append-is : (dat : Rec) → m < r → appendIn π (view l) f n dat ≡ finish 0 (writePlan π (view l) f n dat)
   unfolding appendIn
-  append-is dat h = rw (appendIn, lt-leb (room π (view l)) (needs π (view l) f n) (omega (arith, needed)))
+  append-is dat h = rw (appendIn, lt-leb (room π (view l)) (needs π (view l) f n) (omega arith))
 
-  -- a is the first free block, q the next and z the one behind it; g is the first free block afterwards
-  module _ (enough : m < r) (a q : ℕ) (ha : a ≡ freeHead π (view l)) (hq : q ≡ pdaBlock (π .drive) (pair (view l) a nextAt)) where
+  -- a is the first free block, q the next and d the one behind it
+  module _ (some : 1 ≤ m) (enough : m < r) (a q : ℕ) (ha : a ≡ freeHead π (view l)) (hq : q ≡ pdaBlock (π .drive) (pair (view l) a nextAt)) where
     second : q ≡ freeAt π (view l) 1
     second = free-next π (view l) 0 a q (free-first π (view l) a ha) hq
 
-    pub block-after : Block l q
-    block-after = block-free-at o 1 q second (omega (arith, one-or-two t m hm))
+    pub block-second : Block l q
+    block-second = block-free-at o 1 q second (omega arith)
 
-    pub appends : (z g : ℕ) → z ≡ pdaBlock (π .drive) (pair (view l) q nextAt) → g ≡ pick t z q → Appends (record { p = π; f = f; n = n; a = a; q = q; g = g; m = m }) l
-    appends z g hz hg =
-        record {
-          file = record {
-            opened = file-opened o f c;
-            next = hn;
-            far = far;
-            first = first;
-            second = second;
-            f-in = block-fib o f c;
-            a-in = rw ha (block-head o);
-            q-in = block-after;
-          };
-          s-in = block-pib o;
-          g-in = block-free-at o m g (here t hg hm) (omega arith);
-          after = here t hg hm ∙ ap (freeAt π (view l)) takes-is;
-          many = takes-is;
-        }
-      where
-        first : a ≡ freeAt π (view l) 0
-        first = free-first π (view l) a ha
+    module _ (d : ℕ) (hd : d ≡ pdaBlock (π .drive) (pair (view l) q nextAt)) where
+      third : d ≡ freeAt π (view l) 2
+      third = free-next π (view l) 1 q d second hd
 
-        here : (t : Bool) → g ≡ pick t z q → m ≡ pick t 2 1 → g ≡ freeAt π (view l) m
-        here true hg hm = hg ∙ free-next π (view l) 1 q z second hz ∙ ap (freeAt π (view l)) (sym hm)
-        here false hg hm = hg ∙ second ∙ ap (freeAt π (view l)) (sym hm)
+      pub leaves : m ≤ 3 → (1 ≤ m) × (m ≤ 3) × (q ≡ freeAt π (view l) 1) × (d ≡ freeAt π (view l) 2) × (2 < m → Block l d)
+      leaves few = (some, few, second, third, λ h. block-free-at o 2 d third (omega arith))
+
+      pub appends : (g : ℕ) → candidate π (view l) f ≡ true → n ≡ len (view l) f → n < reach → g ≡ freeAt π (view l) m
+          → Appends (record { p = π; f = f; n = n; m = m; a = a; q = q; d = d; g = g }) l
+      appends g c hn far hg = record {
+        opened = file-opened o f c;
+        next = hn;
+        far = far;
+        many = hm;
+        first = free-first π (view l) a ha;
+        second = second;
+        third = third;
+        after = hg;
+        room = λ i h. block-free-at o i _ refl (omega arith);
+        s-in = block-pib o;
+        f-in = block-fib o f c;
+        a-in = rw ha (block-head o);
+        g-in = block-free-at o m g hg (omega arith);
+      }

@@ -1,14 +1,15 @@
 // The changing call write: a block that is there is replaced, and the block behind the last is appended.
 ghost use mathlib.Core.Path.{_≡_};
 ghost use mathlib.Core.Bool.{true};
-ghost use Prim.Native.Nat.{_<_};
+ghost use Prim.Native.Nat.{_≤_, _<_};
 ghost use lib.ListN.{length};
-ghost use Rattle.base.specs.Tests.{pick};
 ghost use Rattle.image.specs.Image.{view};
 ghost use Rattle.image.specs.Saves.{words};
 ghost use Rattle.volume.specs.Keys.{reach};
 ghost use Rattle.volume.specs.Files.{candidate, len};
+ghost use Rattle.volume.specs.Plans.{freeAt};
 ghost use Rattle.volume.specs.Calls.{appendIn, writeIn, Answered, planned, write};
+ghost use Rattle.records.specs.Records.{Block};
 ghost use Rattle.change.specs.Gate.{Opens};
 use append::Append;
 use base::Refusal;
@@ -17,14 +18,22 @@ use volume::Answer;
 use volume::Part;
 use volume::Partition;
 
-// a where `on`, else b.
-fn choose(on: bool, a: usize, b: usize) -> usize
-    ensures { λ r. ⌜ r ≡ pick on a b ⌝ }
+// The first free block once m are taken, one to three, of which q is the second and d the third.
+fn left(img: &[u8], p: Partition, m: usize, q: usize, d: usize) -> usize
+    requires { ⌜ (1 ≤ m) × (m ≤ 3) × (q ≡ freeAt p (view (now img)) 1) × (d ≡ freeAt p (view (now img)) 2) × ((2 < m) → (Block (now img) d)) ⌝ }
+    ensures { λ g. ⌜ g ≡ freeAt p (view (now (img .entry))) m ⌝ }
 {
-    if on { a } else { b }
+    if m < 2 {
+        return q;
+    }
+    if m < 3 {
+        return d;
+    }
+    change::free::next(img, p.drive, d)
 }
 
-// Append to the file f of n blocks in a sound partition: 8. The data block is the first free block, a new pointer block the second.
+// Append to the file f of n blocks in a sound partition: 8. The data block is the first free block, a new pointer block over it the second,
+// and a new -2 or -3 the third.
 fn append_open(
     img: &mut [u8],
     p: Partition,
@@ -36,23 +45,23 @@ fn append_open(
     requires { ⌜ (Opens p (now img)) × (candidate p (view (now img)) f ≡ true) × (n ≡ len (view (now img)) f) × (n < reach) × (length (now block) ≡ 512) ⌝ }
     ensures { λ a. ⌜ Answered limit (appendIn p (view (now (img .entry))) f n (words (now (block .entry)))) (now (img .entry)) (now (img .exit)) a ⌝ }
 {
-    let grows = append::place::grows(n);
-    let m = choose(grows, 2, 1);
+    let m = append::place::needs(n);
     if change::free::room(img, p) <= m {
         return change::refused(Refusal::Full);
     }
     let a = change::free::head(img, p);
     let q = change::free::next(img, p.drive, a);
-    let z = change::free::next(img, p.drive, q);
-    let g = choose(grows, z, q);
+    let d = change::free::next(img, p.drive, q);
+    let g = left(img, p, m, q, d);
     let w = Append {
         p,
         f,
         n,
+        m,
         a,
         q,
+        d,
         g,
-        m,
     };
     let made = append::append_store(img, w, block, limit);
     change::done(0, made)

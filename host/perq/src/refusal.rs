@@ -39,7 +39,7 @@ pub enum Refusal {
     Unsound,
     /// 6: the block that was named is no file of this partition; in `look_up` and `tree`, its root directory is none.
     NoFile,
-    /// 7: the block number is above 4,159, or in a write more than one past the file's last block.
+    /// 7: the block number is above 32,766, or in a write more than one past the file's last block.
     Range,
     /// 8: too few blocks are free; the last one is never handed out.
     Full,

@@ -8,56 +8,10 @@ use std::collections::HashSet;
 use trials::both::Both;
 use trials::call::{Call, Name};
 use trials::cuts::plan;
-use trials::images::{word, Place, DATA_WORD};
+use trials::images::Place;
 use trials::low_bits;
 use trials::settings::{cases, rng};
-
-/// What a person would call a file: its place, its kind, its description and its bytes.
-#[derive(Clone, Debug, PartialEq, Eq)]
-struct File {
-    f: u32,
-    kind: u16,
-    description: Vec<u8>,
-    bytes: Vec<u8>,
-}
-
-/// The table of files of a sound partition, asked of the library.
-fn table(image: &[u8], place: &Place) -> Vec<File> {
-    let drive = Drive::from_number(place.drive).expect("a drive");
-    perq::check(image, drive, place.s).expect("a sound partition");
-    let files = perq::files(image, drive, place.s).expect("a good partition");
-    let row = |f| File {
-        f,
-        kind: word(image, f, DATA_WORD + 248),
-        description: perq::description(image, drive, place.s, f).expect("a file").to_vec(),
-        bytes: perq::whole_file(image, drive, place.s, f).expect("a file"),
-    };
-    files.map(row).collect()
-}
-
-/// The table after a call that answers `a`, worked out from the one before it.
-fn table_after(before: &[File], call: &Call, a: u32) -> Vec<File> {
-    let mut files = before.to_vec();
-    match call.name {
-        Name::Create => {
-            let (kind, description) = (call.number as u16, vec![0; 104]);
-            files.push(File { f: a, kind, description, bytes: Vec::new() });
-            files.sort_by_key(|file| file.f);
-        }
-        Name::Destroy => files.retain(|file| file.f != call.f),
-        _ => {
-            let file =
-                files.iter_mut().find(|file| file.f == call.f).expect("the file that is named");
-            let from = 512 * call.r as usize;
-            match call.name {
-                Name::Describe => file.description = call.buffer.clone(),
-                _ if from == file.bytes.len() => file.bytes.extend(&call.buffer),
-                _ => file.bytes[from..from + 512].copy_from_slice(&call.buffer),
-            }
-        }
-    }
-    files
-}
+use trials::table::{table, table_after, File};
 
 /// Every call that does something in this state. What is written differs from what was there.
 fn every_call(files: &[File], place: &Place) -> Vec<Call> {

@@ -4,11 +4,12 @@ use reference::image::{RECORD, RELATIVE};
 use reference::inspect::file_blocks;
 use reference::sample::{blank, Rng};
 use reference::tree_sample::Tree;
+use trials::big;
 use trials::both::Both;
 use trials::call::Name;
 use trials::damage::{self, Field};
 use trials::draw::{self, candidates};
-use trials::images::{set_pair, set_word, shuffled, some_lengths, word, Place, DATA_WORD};
+use trials::images::{is_pointer, set_pair, set_word, shuffled, some_lengths, Place, DATA_WORD};
 use trials::low_bits;
 use trials::settings::{cases, long_run, rng};
 use trials::sweep;
@@ -94,8 +95,7 @@ fn each_entry_of_a_pointer_block() {
             let files = candidates(&image, &place);
             let long = files.into_iter().max_by_key(|&f| sweep::length(&image, f)).expect("files");
             let own = file_blocks(&image, drive, place.s, long).expect("sound");
-            let is_pointer = |b: &u32| (word(&image, *b, RELATIVE) as i16) < -1;
-            let pointers: Vec<u32> = own.into_iter().filter(is_pointer).collect();
+            let pointers: Vec<u32> = own.into_iter().filter(|&b| is_pointer(&image, b)).collect();
             let mut both = Both::new(image);
             for b in pointers {
                 try_fields(&mut both, &place, b, long, &damage::pointer_fields());
@@ -128,8 +128,11 @@ fn some_calls(
     }
 }
 
-/// Files without directories.
+/// Files without directories, now and then a big one.
 fn some_files(rng: &mut Rng) -> (Place, Vec<u8>) {
+    if big::is_due(rng) {
+        return big::some(rng);
+    }
     let n = 4 + rng.below(120);
     let place = Place { drive: rng.below(4), n, s: 1 + rng.below(2), e: n - 1 };
     let lengths = some_lengths(&place, 5, rng);

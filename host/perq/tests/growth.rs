@@ -5,7 +5,7 @@ use perq::{raw, Drive};
 use reference::sample::{fresh, scattered, Rng};
 use trials::both::Both;
 use trials::call::{Call, Name};
-use trials::cuts::every_limit;
+use trials::cuts::{every_limit, stored};
 use trials::draw::candidates;
 use trials::images::{pair, shuffled, word, Place};
 use trials::low_bits;
@@ -62,7 +62,7 @@ fn stores_of_an_append(r: u32) -> u32 {
 }
 
 #[test]
-fn the_last_block_that_a_file_can_have() {
+fn the_last_blocks_before_the_double_index() {
     for drive in 0..3 {
         for length in [4_030, 4_031, 4_032, 4_033, 4_158, 4_159] {
             let place = Place { drive, n: 4_300, s: 1, e: 4_299 };
@@ -74,7 +74,7 @@ fn the_last_block_that_a_file_can_have() {
         }
         let place = Place { drive, n: 4_300, s: 1, e: 4_299 };
         let mut both = Both::new(scattered(drive, place.n, place.s, place.e, &[4_160], 3));
-        for r in [4_160, 4_161, u32::MAX] {
+        for r in [4_161, 4_162, 32_766, 32_767, u32::MAX] {
             assert!(is_refusal(both.call(&place.write(2, r, 1)), 7));
         }
         every_limit(&mut both, &place.write(2, 4_159, 1));
@@ -227,25 +227,6 @@ fn the_order_of_stores_of_the_worked_example() {
     assert_eq!(free(&image), [5, 6, 7, 2, 3, 4]);
     assert_eq!(pair(&image, 2, 0), 0, "the serial of the file's own block is gone");
     assert_ne!(pair(&image, 3, 0), 0, "the inner block keeps it");
-}
-
-/// The blocks that the library stores, one by one, in their order.
-fn stored(image: &mut Vec<u8>, call: &Call) -> Vec<u32> {
-    let mut blocks = Vec::new();
-    let mut last = image.clone();
-    for limit in 1.. {
-        let mut next = image.clone();
-        let mut buffer = call.buffer.clone();
-        let limited = call.clone().with_limit(limit);
-        let answer = trials::call::on_library(&limited, &mut next, &[], &mut buffer);
-        if answer.made < limit {
-            break;
-        }
-        blocks.extend(trials::cuts::changed_blocks(&last, &next));
-        last = next;
-    }
-    *image = last;
-    blocks
 }
 
 #[test]

@@ -7,9 +7,10 @@ use reference::image::{FREE_HEAD, FREE_TAIL, HEADER, NEXT, PREVIOUS, RECORD};
 use reference::inspect::file_blocks;
 use reference::sample::{fresh, scattered};
 use reference::{lda_to_lbn, Answer, DONE};
+use trials::big;
 use trials::call::same_fields;
 use trials::draw::candidates;
-use trials::images::{fib_addresses, pair, pointer_addresses, set_pair, shuffled};
+use trials::images::{fib_addresses, indexed, pair, pointer_addresses, set_pair, shuffled};
 use trials::images::{Place, DATA_WORD};
 use trials::plain::agreed;
 use trials::settings::rng;
@@ -27,8 +28,10 @@ fn check(image: &[u8], place: &Place) -> Answer {
 #[test]
 fn a_free_chain_that_is_a_file_s_own() {
     for drive in 0..4 {
-        for length in [0u32, 1, 2, 64, 65, 193] {
-            let blocks = 1 + length + length.saturating_sub(64).div_ceil(128);
+        let fits =
+            |length: &u32| 2 + 2 * big::in_use(*length) <= Drive::ALL[drive as usize].blocks();
+        for length in [0, 1, 2, 64, 65, 193, 4_161].into_iter().filter(fits) {
+            let blocks = big::in_use(length);
             let place = Place::whole(drive, 2 + 2 * blocks);
             let mut image = scattered(drive, place.n, place.s, place.e, &[length], 1);
             assert_eq!((check(&image, &place).b, check(&image, &place).c), (blocks, blocks));
@@ -102,6 +105,28 @@ fn an_index_that_names_blocks_outside_of_the_partition() {
                     assert!(is_refusal(answer, 4), "block {b} of {f} at {outside}: {answer:?}");
                     assert_eq!(answer.block, f);
                 }
+            }
+        }
+    }
+}
+
+/// The same of the blocks through which a big file is found.
+#[test]
+fn a_double_index_that_names_blocks_outside_of_the_partition() {
+    let mut rng = rng(81);
+    for (drive, length, relatives) in
+        [(0, 4_161, &[-2, -4, -36, 4_160][..]), (2, 20_545, &[-2, -3, -163, -164, 20_544])]
+    {
+        let e = 3 + big::in_use(length) + 2;
+        let place = Place { drive, n: e + 3, s: 3, e };
+        let image = shuffled(&place, &[length], &mut rng);
+        let f = candidates(&image, &place)[0];
+        for &relative in relatives {
+            let b = indexed(&image, &place, f, relative).expect("a block of the file");
+            for outside in [place.s - 1, place.s, place.e + 1] {
+                let answer = check(&moved_out(&image, &place, f, b, outside), &place);
+                assert!(is_refusal(answer, 4), "{relative} at {outside}: {answer:?}");
+                assert_eq!(answer.block, f);
             }
         }
     }

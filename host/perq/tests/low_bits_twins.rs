@@ -144,6 +144,10 @@ fn bits_are_laid_into_every_lda() {
         let image = scattered(drive, place.n, place.s, place.e, &[0, 3, 65, 193], 1);
         must_lay(image, &place, 4 + 4 * 2 + 3 + (65 + 1) + (193 + 2));
     }
+    // 34 pointer blocks, and -2 over the last two.
+    let place = Place { drive: 0, n: 4_400, s: 3, e: 4_390 };
+    let image = scattered(place.drive, place.n, place.s, place.e, &[4_300], 1);
+    must_lay(image, &place, 4 + 2 + (4_300 + 34 + 1));
 }
 
 #[test]

@@ -38,8 +38,10 @@ fn a_shown_block_is_a_part_of_the_image() {
         assert!(is_part(bytes, &image, block_of(&image, r)));
         assert_eq!(bytes, content(1, 0, r));
     }
-    assert_eq!(perq::show(&image, DRIVE, 1, 2, 3), Ok(None));
-    assert_eq!(perq::show(&image, DRIVE, 1, 2, 4_160), Err(Refusal::Range));
+    for r in [3, 4_159, 4_160, 32_766] {
+        assert_eq!(perq::show(&image, DRIVE, 1, 2, r), Ok(None));
+    }
+    assert_eq!(perq::show(&image, DRIVE, 1, 2, 32_767), Err(Refusal::Range));
     assert_eq!(perq::show(&image, DRIVE, 1, 4, 0), Err(Refusal::NoFile));
 }
 
@@ -88,7 +90,8 @@ fn every_pair_of_such_images_as_the_reference_has_it() {
     for original in &images {
         let mut both = Both::new(original.clone());
         for repaired in &images {
-            for (f, r) in [(2, 0), (2, 1), (2, 2), (2, 3), (3, 0), (4, 0), (2, 4_160), (0, 0)] {
+            let of_2 = [0, 1, 2, 3, 4_160, 32_766, 32_767].map(|r| (2, r));
+            for (f, r) in of_2.into_iter().chain([(3, 0), (4, 0), (0, 0)]) {
                 let call = Call::new(Name::ShowPair, DRIVE.number(), 1).with_file(f).with_block(r);
                 both.call_with(&call, repaired);
             }

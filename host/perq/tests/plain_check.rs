@@ -6,15 +6,18 @@ use reference::file::FIB;
 use reference::image::{PARTITION_END, PARTITION_START, RECORD, RELATIVE, SERIAL};
 use reference::sample::{fresh, Rng};
 use reference::{Answer, DONE};
+use trials::big;
 use trials::call::{Call, Name};
 use trials::damage::{self, Field};
+use trials::draw::candidates;
 use trials::guard::{Guarded, Side};
-use trials::images::{is_candidate, set_pair, set_word, shuffled, some_lengths, word};
-use trials::images::{Place, DATA_WORD};
+use trials::images::{indexed, is_candidate, is_pointer, set_pair, set_word, shuffled};
+use trials::images::{some_lengths, Place, DATA_WORD};
 use trials::low_bits;
 use trials::plain::agreed;
 use trials::settings::{cases, long_run, rng};
 use trials::shapes::Shape;
+use trials::sweep;
 use trials::tally::{is_refusal, Tally};
 
 /// The answer to an image with nothing behind its last byte, or before its first one.
@@ -28,7 +31,7 @@ fn check_between_traps(image: &[u8], drive: u32, s: u32) -> Answer {
 fn the_shapes_of_the_benchmark() {
     let mut rng = rng(70);
     for drive in Drive::ALL {
-        for m in [10, 200, 431, 9_000].into_iter().filter(|&m| m < drive.blocks()) {
+        for m in [10, 200, 431, 9_000, 32_767].into_iter().filter(|&m| m < drive.blocks()) {
             let place = Place::whole(drive.number(), m + 1);
             for shape in Shape::ALL {
                 let image = shape.image(place.drive, m);
@@ -63,12 +66,18 @@ fn fields(image: &[u8], place: &Place, b: u32) -> Vec<Field> {
     fields
 }
 
-/// Puts every likely value into each field of each of these blocks, one at a time.
-fn try_blocks(image: &[u8], place: &Place, blocks: &[u32], tally: &mut Tally) {
+/// Puts every likely value into each field of these blocks that is to be tried, one at a time.
+fn try_blocks(
+    image: &[u8],
+    place: &Place,
+    blocks: &[u32],
+    is_tried: impl Fn(&Field) -> bool,
+    tally: &mut Tally,
+) {
     let mut guarded = Guarded::new(image.len());
     let image = guarded.lend(image, Side::End);
     for &b in blocks {
-        for field in fields(image, place, b) {
+        for field in fields(image, place, b).into_iter().filter(&is_tried) {
             let old = damage::get(image, b, field);
             for value in damage::values(image, place, b, field) {
                 damage::set(image, b, field, value);
@@ -77,11 +86,6 @@ fn try_blocks(image: &[u8], place: &Place, blocks: &[u32], tally: &mut Tally) {
             damage::set(image, b, field, old);
         }
     }
-}
-
-/// Whether block b says that it is a pointer block.
-fn is_pointer(image: &[u8], b: u32) -> bool {
-    (word(image, b, RELATIVE) as i16) < -3
 }
 
 /// The blocks whose fields are tried on the image of this turn, of eight. All of them in a long run; otherwise two of those
@@ -109,20 +113,50 @@ fn each_field_of_a_sound_partition() {
     for drive in 0..4 {
         let (place, images) = base(drive, &mut rng);
         for (turn, image) in (drive as usize..).step_by(4).zip(images) {
-            try_blocks(&image, &place, &due(&image, &place, turn), &mut tally);
+            try_blocks(&image, &place, &due(&image, &place, turn), |_| true, &mut tally);
         }
     }
     must_have_met(&tally, &[0, 2, 4, 5]);
+}
+
+/// The blocks through which a big file is found: its own, -2, -3, and pointer blocks that each of them names. Of their fields
+/// these are the header, the first entries and the last ones, and in the file's own block the double entries and all that
+/// follows.
+#[test]
+fn fields_of_a_big_index() {
+    let (mut rng, mut tally) = (rng(74), Tally::default());
+    let is_at_an_end = |field: &Field| !(DATA_WORD + 6..DATA_WORD + 240).contains(&field.at);
+    for (drive, length, relatives) in
+        [(0, 4_290, &[-1, -2, -4, -35, -36, -37][..]), (2, 20_546, &[-2, -3, -163, -164])]
+    {
+        let place = big::place(drive, length, 2);
+        let image = shuffled(&place, &[length, big::SHORT], &mut rng);
+        let f = candidates(&image, &place).into_iter().max_by_key(|&f| sweep::length(&image, f));
+        let block = |&relative: &i32| indexed(&image, &place, f.expect("two files"), relative);
+        let blocks: Vec<u32> = relatives.iter().filter_map(block).collect();
+        assert_eq!(blocks.len(), relatives.len());
+        try_blocks(&image, &place, &blocks, is_at_an_end, &mut tally);
+    }
+    must_have_met(&tally, &[0, 4, 5]);
+}
+
+/// A sound partition, now and then with a big file.
+fn some_files(rng: &mut Rng) -> (Place, Vec<u8>) {
+    if big::is_due(rng) {
+        return big::some(rng);
+    }
+    let n = 4 + rng.below(120);
+    let place = Place { drive: rng.below(4), n, s: 1 + rng.below(2), e: n - 1 };
+    let lengths = some_lengths(&place, 5, rng);
+    (place, shuffled(&place, &lengths, rng))
 }
 
 #[test]
 fn random_damage() {
     let (mut rng, mut tally) = (rng(72), Tally::default());
     for _ in 0..cases(8_000) {
-        let n = 4 + rng.below(120);
-        let place = Place { drive: rng.below(4), n, s: 1 + rng.below(2), e: n - 1 };
-        let lengths = some_lengths(&place, 5, &mut rng);
-        let mut image = low_bits::perhaps(shuffled(&place, &lengths, &mut rng), &place, &mut rng);
+        let (place, image) = some_files(&mut rng);
+        let mut image = low_bits::perhaps(image, &place, &mut rng);
         for _ in 0..rng.below(4) {
             damage::damage(&mut image, &place, &mut rng);
         }

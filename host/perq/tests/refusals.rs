@@ -104,7 +104,7 @@ fn cause(number: u32, image: &mut [u8], call: &mut Call) {
         }
         6 if Name::DIRECTORIES.contains(&call.name) => set_root(image, PLACE.s, 0),
         6 => call.f = PLACE.s,
-        7 => call.r = 4_160,
+        7 => call.r = 32_767,
         8 if call.name == Name::Write && call.r == 0 => call.r = 64,
         8 => {}
         11 => {

@@ -3,6 +3,7 @@
 
 use reference::sample::{fresh, Rng};
 use reference::{DONE, REFUSED};
+use trials::big;
 use trials::both::Both;
 use trials::call::{Call, Name};
 use trials::cuts::every_limit;
@@ -10,7 +11,7 @@ use trials::damage::damage;
 use trials::draw::{self, candidates};
 use trials::images::{shuffled, some_lengths, Place};
 use trials::low_bits;
-use trials::settings::{cases, rng};
+use trials::settings::{cases, rng, rounds};
 use trials::tally::Tally;
 
 /// Writes are what builds up a partition, so they are drawn most.
@@ -84,6 +85,26 @@ fn random_sequences() {
     for name in [Name::Create, Name::Write, Name::Describe, Name::Destroy] {
         tally.must_have_all(&[name]);
     }
+}
+
+/// Random calls on big files, each cut anywhere, and now and then a repair.
+#[test]
+fn random_sequences_on_big_files() {
+    let (mut rng, mut tally) = (rng(22), Tally::default());
+    for _ in 0..rounds(150_000, 10_000) / 5 {
+        let (place, image) = big::some(&mut rng);
+        let mut both = Both::new(low_bits::perhaps(image, &place, &mut rng));
+        for _ in 0..25 {
+            let files = candidates(both.image(), &place);
+            let call = draw::call(&WEIGHTED, both.image(), &place, &files, &mut rng);
+            let answer = both.call(&Call { drive: place.drive, ..call.clone() });
+            tally.add(&call, answer);
+            if rng.below(4) == 0 {
+                both.call(&place.call(Name::Repair));
+            }
+        }
+    }
+    assert!(tally.times(Name::Write, 0) > 50, "{tally:?}");
 }
 
 /// On a sound partition no whole call leaves it unsound.

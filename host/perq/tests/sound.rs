@@ -11,7 +11,8 @@ use trials::low_bits;
 use trials::settings::rng;
 use trials::sweep;
 
-/// The last direct block, the first under a pointer block, the first under the second one, and the longest file.
+/// The last direct block, the first under a pointer block, the first under the second one, and the last that the file's own
+/// block leads to without a double index.
 const LENGTHS: [u32; 9] = [0, 1, 63, 64, 65, 191, 192, 193, 4_160];
 
 fn pointer_blocks(length: u32) -> u32 {

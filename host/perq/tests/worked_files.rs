@@ -2,6 +2,7 @@
 //! runs nothing has failed.
 
 use trials::call::{Call, Name};
+use trials::images::{set_pair, set_word, Place};
 use trials::worked::{run, Side};
 use trials::worked_file::{parse, Step};
 
@@ -30,7 +31,7 @@ fn a_good_file_is_read() {
     assert_eq!(names, [("1", 1_056, 6), ("2", 528, 1)]);
     let calls = cases[0].steps.iter().filter_map(|step| match step {
         Step::Call(expected) => Some((expected.line, expected.buffer_crc, expected.rows.len())),
-        Step::Put(..) => None,
+        Step::Put(..) | Step::Lay(_) => None,
     });
     let crc = Some(0x89AB_CDEF);
     let expected = [(4, None, 0), (6, crc, 0), (7, crc, 0), (9, crc, 32)];
@@ -120,6 +121,95 @@ fn a_conversion_has_a_drive_and_a_number() {
         let summed =
             format!("call {word} 2 1 -> 0 0 0 0 0 0 0 image 0123abcd buffer 89abcdef\nend\n");
         must_fail(&GOOD.replace("end\ncase 2", &format!("{summed}case 2")), 11);
+    }
+}
+
+/// A partition with a file of three blocks, 2 to 0 at blocks 4 to 6, and the free blocks 2 and 7.
+const LAID: &str = "case 1 drive 0 records 9 s 1
+partition 7
+file 3 kind 9 blocks 3 at 6 step -1
+chain
+call check 0 1 -> 0 0 0 0 1 4 2 image 00000000
+end
+";
+
+#[test]
+fn a_file_is_laid_by_rule() {
+    let cases = parse(LAID).expect("a good file");
+    let Step::Lay(laying) = &cases[0].steps[0] else { panic!("the partition of line 2") };
+    let mut image = vec![0; cases[0].length];
+    laying.lay(&mut image);
+    let place = Place { drive: 0, n: 9, s: 1, e: 7 };
+    let mut expected = vec![0; 528 * 9];
+    let (pda, lda) = (|b| place.pda(b), |b| place.lda(b));
+    // Header: serial, next, previous.
+    for (b, serial, next, previous) in [
+        (3, pda(3), pda(6), 0),
+        (6, pda(3), pda(5), pda(3)),
+        (5, pda(3), pda(4), pda(6)),
+        (4, pda(3), 0, pda(5)),
+        (2, 0, pda(7), 0),
+        (7, 0, 0, pda(2)),
+    ] {
+        for (at, value) in [(0, serial), (4, next), (6, previous)] {
+            set_pair(&mut expected, b, at, value);
+        }
+    }
+    for (at, value) in [(0, lda(2)), (2, lda(7)), (4, 2), (118, lda(1)), (120, lda(7))] {
+        set_pair(&mut expected, 1, 8 + at, value);
+    }
+    for (at, value) in [(52, lda(6)), (54, lda(5)), (56, lda(4)), (251, lda(4)), (254, lda(3))] {
+        set_pair(&mut expected, 3, 8 + at, value);
+    }
+    for (at, value) in [(2, 0xFFFF), (8 + 248, 9), (8 + 249, 4), (8 + 250, 2), (8 + 253, 0xFFFF)] {
+        set_word(&mut expected, 3, at, value);
+    }
+    let others = [(5, 2, 1), (5, 8, 1), (4, 2, 2), (4, 8, 2), (2, 3, 2), (7, 3, 2)];
+    others.into_iter().for_each(|(b, at, value)| set_word(&mut expected, b, at, value));
+    assert!(image == expected);
+}
+
+#[test]
+fn a_file_that_cannot_be_laid_is_an_error() {
+    let file = "file 3 kind 9 blocks 3 at 6 step -1";
+    for spoilt in [
+        "file 3 kind 9 blocks 3 at 6 step 2",
+        "file 3 kind 9 blocks 3 at 6 step 0",
+        "file 3 kind 9 blocks 3 at 6 step 1",
+        "file 3 kind 9 blocks 3 at 5 step -1",
+        "file 3 kind 9 blocks 3 at 3 step 1",
+        "file 1 kind 9 blocks 0 at 6 step -1",
+        "file 8 kind 9 blocks 0 at 6 step -1",
+        "file 3 kind 65536 blocks 3 at 6 step -1",
+        "file 3 kind 9 blocks 65536 at 6 step -1",
+        "file 3 kind 9 blocks 3 at 6 step -1 more",
+        "file 3 kind 9 blocks 3 at 6",
+        "file 3 kind 9 at 6 step -1 present 0-2",
+        "chain more",
+        "chains",
+    ] {
+        must_fail(&LAID.replace(file, spoilt), 3);
+    }
+    for spoilt in ["partition 1", "partition 9", "partition", "partition 7 8", "partition x"] {
+        must_fail(&LAID.replace("partition 7", spoilt), 2);
+    }
+    must_fail(&LAID.replace("drive 0", "drive 4"), 2);
+    // Blocks that a file has already; lines that come too late or too early.
+    must_fail(&LAID.replace("chain", "file 2 kind 9 blocks 1 at 4 step 1"), 4);
+    must_fail(&LAID.replace("chain", "file 5 kind 9 blocks 0 at 4 step 1"), 4);
+    must_fail(&LAID.replace("chain", "chain\nchain"), 5);
+    must_fail(&LAID.replace("chain", "chain\nfile 2 kind 9 blocks 0 at 4 step 1"), 5);
+    must_fail(&LAID.replace("chain", "partition 7"), 4);
+    must_fail(&LAID.replace("chain", "put 0 00\nchain"), 5);
+    must_fail(&LAID.replace("partition", "put 0 00\npartition"), 3);
+    must_fail(&LAID.replace("partition 7\n", ""), 2);
+    must_fail(&LAID.replace(&format!("partition 7\n{file}\n"), ""), 2);
+}
+
+#[test]
+fn a_case_has_a_drive_and_a_partition() {
+    for spoilt in ["case 1", "case 1 drive 3 records 2", "case 1 records 2 drive 3 s 1"] {
+        must_fail(&GOOD.replace("case 1 drive 3 records 2 s 1", spoilt), 2);
     }
 }
 

@@ -1,11 +1,13 @@
 """The reading calls: what they answer, that a shown block is the caller's own memory, and every refusal."""
 import mmap
+import struct
 import tempfile
 import unittest
 
 import tapermoss
 from tapermoss import RECORD, Drive, Refused, Source, Summary
 
+from .laying import Laying
 from .sample import content, malformed, sample, set_pair
 
 DRIVE = Drive.MICROPOLIS35
@@ -69,8 +71,8 @@ class Reading(unittest.TestCase):
     def test_show_tells_absent_and_refused_apart(self):
         image = sample(DRIVE)
         self.assertIsNone(tapermoss.show(image, DRIVE, 1, 2, 3))
-        self.assertIsNone(tapermoss.show(image, DRIVE, 1, 2, 4159))
-        self.refused(7, tapermoss.show, image, DRIVE, 1, 2, 4160)
+        self.assertIsNone(tapermoss.show(image, DRIVE, 1, 2, 32766))
+        self.refused(7, tapermoss.show, image, DRIVE, 1, 2, 32767)
         self.refused(6, tapermoss.show, image, DRIVE, 1, 3, 0)
         self.refused(4, tapermoss.show, malformed(DRIVE), DRIVE, 1, 2, 0, block=2)
 
@@ -106,6 +108,20 @@ class Reading(unittest.TestCase):
         self.refused(6, tapermoss.whole_file, image, DRIVE, 1, 2 ** 32 - 1)
         self.refused(3, tapermoss.extract, image, DRIVE, 1, 2, bytearray(512))
         self.refused(4, tapermoss.whole_file, malformed(DRIVE), DRIVE, 1, 2, block=2)
+
+    def test_a_file_with_a_double_index(self):
+        laying = Laying('partition 4340', DRIVE, 1)
+        laying.add('file 2 kind 5 blocks 4290 at 3 step 1')
+        laying.add('chain')
+        image = bytearray(RECORD * 4341)
+        laying.into(image)
+        # 34 pointer blocks and -2 stand before the data, whose first word is the block's number.
+        self.assertEqual(tapermoss.check(image, DRIVE, 1), Summary(1, 1 + 34 + 1 + 4290, 13))
+        whole = tapermoss.whole_file(image, DRIVE, 1, 2)
+        self.assertEqual([*struct.iter_unpack('<H510x', whole)], [(r,) for r in range(4290)])
+        for r in (63, 64, 4159, 4160, 4287, 4288, 4289):
+            self.assertEqual(tapermoss.show(image, DRIVE, 1, 2, r), r.to_bytes(512, 'little'))
+        self.assertIsNone(tapermoss.show(image, DRIVE, 1, 2, 4290))
 
     def test_description(self):
         image = sample(DRIVE)

@@ -5,6 +5,8 @@ from typing import NamedTuple
 
 import tapermoss
 
+from .laying import Laying
+
 FOLDER = os.path.join(os.path.dirname(__file__), '..', '..', '..', 'tests', 'worked')
 REQUEST_1 = os.path.join(FOLDER, 'request-1.txt')
 #: The calls whose buffer's sum stands in a case, those that change the image, and those that take none.
@@ -43,7 +45,7 @@ class Call(NamedTuple):
 
 
 def cases(path):
-    """Each case as its number, an image of zeros, and its puts and calls in their order."""
+    """Each case as its number, an image of zeros, and what is laid, its puts and its calls in their order."""
     steps = None
     with open(path) as file:
         for line in file:
@@ -54,6 +56,11 @@ def cases(path):
                 raise ValueError(f'{path} has a line that is not between a case and its end, or a case that is: {line}')
             if words[0] == 'case':
                 number, image, steps = int(words[1]), bytearray(tapermoss.RECORD * int(words[5])), []
+                drive, s = int(words[3]), int(words[7])
+            elif words[0] == 'partition' and not steps:
+                steps.append(Laying(line, drive, s))
+            elif words[0] in ('file', 'chain') and steps and isinstance(steps[-1], Laying):
+                steps[-1].add(line)
             elif words[0] == 'put':
                 steps.append(Put(int(words[1]), bytes.fromhex(words[2])))
             elif words[0] == 'call':

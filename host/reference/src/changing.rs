@@ -6,11 +6,12 @@ use crate::address::NIL;
 use crate::allocation::{first_free, store_allocation};
 use crate::answer::{Answer, Refusal};
 use crate::append::append;
-use crate::file::{file_at, File, DESCRIPTION, FIB, LAST_RELATIVE};
+use crate::file::{file_at, File, DESCRIPTION};
 use crate::file::{
     BLOCKS_IN_USE, KIND, LAST_ADDRESS, LAST_BLOCK, LAST_NEGATIVE, LAST_NEGATIVE_ADDRESS,
 };
 use crate::image::{Partition, DATA, FREE_TAIL, NUMBER_FREE};
+use crate::index::{FIB, LAST_RELATIVE};
 use crate::plan::Plan;
 use crate::record::Record;
 use crate::sound::sound;

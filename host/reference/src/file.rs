@@ -1,13 +1,13 @@
-//! Candidates, the index of a FIB, and what makes a candidate well formed: a file.
+//! Candidates, and what makes a candidate well formed: a file.
 
 use crate::address::NIL;
 use crate::answer::Refusal;
 use crate::image::Partition;
+use crate::index::{place, Level, LAST_RELATIVE};
 
-/// Data words of a FIB.
-pub const DIRECT: usize = 52;
-pub const INDIRECT: usize = 180;
-pub const DOUBLE: usize = 244;
+pub use crate::index::{direct_word, entry_word, indirect_word, DIRECT, DOUBLE, FIB};
+
+/// Data words of a FIB behind its index.
 pub const KIND: usize = 248;
 pub const BLOCKS_IN_USE: usize = 249;
 pub const LAST_BLOCK: usize = 250;
@@ -17,48 +17,6 @@ pub const LAST_NEGATIVE_ADDRESS: usize = 254;
 
 /// Bytes of a description: data words 0-51 of a FIB.
 pub const DESCRIPTION: usize = 104;
-/// The last relative block a file can have.
-pub const LAST_RELATIVE: u32 = 4_159;
-/// Direct entries of a FIB, indirect ones, and entries of a pointer block.
-pub const DIRECTS: u32 = 64;
-pub const INDIRECTS: u32 = 32;
-pub const ENTRIES: u32 = 128;
-/// The relative number of a FIB.
-pub const FIB: i32 = -1;
-
-/// Where the index has the address of relative block r.
-#[derive(Clone, Copy, Debug, PartialEq, Eq)]
-pub enum Place {
-    /// This direct entry of the FIB.
-    Direct(u32),
-    /// This entry of the pointer block named by this indirect entry.
-    Indirect { indirect: u32, entry: u32 },
-}
-
-pub fn place(r: u32) -> Place {
-    match r.checked_sub(DIRECTS) {
-        None => Place::Direct(r),
-        Some(r) => Place::Indirect { indirect: r / ENTRIES, entry: r % ENTRIES },
-    }
-}
-
-/// The relative number of the pointer block named by an indirect entry: -4, -5, ...
-pub fn pointer_relative(indirect: u32) -> i32 {
-    -4 - indirect as i32
-}
-
-/// The data word of a direct entry, an indirect entry or a pointer block's entry.
-pub fn direct_word(entry: u32) -> usize {
-    DIRECT + 2 * entry as usize
-}
-
-pub fn indirect_word(indirect: u32) -> usize {
-    INDIRECT + 2 * indirect as usize
-}
-
-pub fn entry_word(entry: u32) -> usize {
-    2 * entry as usize
-}
 
 /// A file: its FIB, and its last block L.
 #[derive(Clone, Copy, Debug, PartialEq, Eq)]
@@ -73,74 +31,102 @@ impl File {
         (self.last + 1) as u32
     }
 
-    /// P, the number of pointer blocks needed for 0..L.
-    pub fn pointers(&self) -> u32 {
-        self.length().saturating_sub(DIRECTS).div_ceil(ENTRIES)
+    /// How many blocks of a level are needed for 0..L.
+    pub fn count(&self, level: Level) -> u32 {
+        level.count(self.length())
     }
 
-    /// How many entries of the last pointer block are used; asked only when P >= 1.
-    pub fn used_entries(&self) -> u32 {
-        (self.length() - DIRECTS - 1) % ENTRIES + 1
-    }
-
+    /// The FIB, and the blocks of every level.
     pub fn blocks_in_use(&self) -> u32 {
-        1 + self.length() + self.pointers()
+        1 + Level::ALL.map(|level| self.count(level)).iter().sum::<u32>()
     }
 
-    /// The number of the most negative block: -(3+P), or -1 when P = 0.
+    /// The number of the most negative block: -(3+P) with P pointer blocks over data, or -1 when P = 0.
     pub fn last_negative(&self) -> i32 {
-        match self.pointers() {
+        match self.count(Level::Pointer) {
             0 => FIB,
-            p => -(3 + p as i32),
+            p => Level::Pointer.relative(p - 1),
         }
     }
 
-    /// The block named by indirect entry `indirect` < P.
-    pub fn pointer_block(&self, partition: &Partition, indirect: u32) -> u32 {
-        let lda = partition.image.data_pair(self.f, indirect_word(indirect));
-        partition.block_of_lda(lda).expect("a file's indirect entries are LDAs")
+    /// The relative number after -4: the most negative of the double index and the FIB.
+    fn after_pointers(&self) -> i32 {
+        FIB - self.count(Level::Double) as i32
     }
 
-    /// The most negative block, the FIB when P = 0.
-    pub fn most_negative_block(&self, partition: &Partition) -> u32 {
-        match self.pointers() {
-            0 => self.f,
-            p => self.pointer_block(partition, p - 1),
+    /// Its relative numbers in link order: -(3+P) ... -5, -4, then -3 and -2 if they are there, -1,
+    /// 0 ... L.
+    pub fn linked(&self) -> impl Iterator<Item = i32> {
+        let pointers = (0..self.count(Level::Pointer)).rev().map(|at| Level::Pointer.relative(at));
+        pointers.chain(self.after_pointers()..=self.last)
+    }
+
+    /// The relative number that follows in link order.
+    pub fn next(&self, relative: i32) -> Option<i32> {
+        match relative {
+            -4 => Some(self.after_pointers()),
+            _ => Some(relative + 1).filter(|&next| next <= self.last),
         }
     }
 
-    /// What the index has for relative block r <= L, its pointer block being good.
-    fn entry(&self, partition: &Partition, r: u32) -> u32 {
-        match place(r) {
-            Place::Direct(entry) => partition.image.data_pair(self.f, direct_word(entry)),
-            Place::Indirect { indirect, entry } => {
-                let pointer = self.pointer_block(partition, indirect);
-                partition.image.data_pair(pointer, entry_word(entry))
-            }
+    /// The relative number before this one in link order.
+    pub fn previous(&self, relative: i32) -> Option<i32> {
+        if relative == self.last_negative() {
+            None
+        } else if relative == self.after_pointers() {
+            Some(-4)
+        } else {
+            Some(relative - 1)
         }
+    }
+
+    /// The block that the index names for a relative number, if it is in s+1..e and has the file's
+    /// serial and that number, and so have the blocks through which it is found.
+    fn find(&self, partition: &Partition, relative: i32) -> Option<u32> {
+        if relative == FIB {
+            return Some(self.f);
+        }
+        let image = &partition.image;
+        let place = place(relative);
+        let holder = self.find(partition, place.holder)?;
+        let b = partition.block_of_lda(image.data_pair(holder, place.word))?;
+        let right = image.serial(b) == image.drive.pda(self.f) && image.relative(b) == relative;
+        right.then_some(b)
+    }
+
+    /// The block that has this relative number.
+    pub fn block(&self, partition: &Partition, relative: i32) -> u32 {
+        self.find(partition, relative).expect("a file's index names its blocks")
     }
 
     /// The block that is relative block r <= L.
     pub fn data_block(&self, partition: &Partition, r: u32) -> u32 {
-        let lda = self.entry(partition, r);
-        partition.block_of_lda(lda).expect("a file's entries are LDAs")
+        self.block(partition, Level::Data.relative(r))
     }
 
     /// Block L, the FIB when L = -1.
     pub fn last_data_block(&self, partition: &Partition) -> u32 {
-        match self.length() {
-            0 => self.f,
-            length => self.data_block(partition, length - 1),
-        }
+        self.block(partition, self.last)
+    }
+
+    /// The most negative block, the FIB when P = 0.
+    pub fn most_negative_block(&self, partition: &Partition) -> u32 {
+        self.block(partition, self.last_negative())
+    }
+
+    /// The blocks of which not all entries may be used, the last of each level that names others: its
+    /// relative number, and how many are used.
+    pub fn last_holders(&self) -> impl Iterator<Item = (i32, u32)> {
+        let length = self.length();
+        Level::ALL.into_iter().filter_map(move |level| level.last_holder(length))
     }
 
     /// Whether every index entry of the FIB that 0..L does not need is nil.
     fn rest_is_nil(&self, partition: &Partition) -> bool {
-        let nil = |word: usize| partition.image.data_pair(self.f, word) == NIL;
-        (self.length()..DIRECTS).all(|entry| nil(direct_word(entry)))
-            && (self.pointers()..INDIRECTS).all(|indirect| nil(indirect_word(indirect)))
-            && nil(DOUBLE)
-            && nil(DOUBLE + 2)
+        Level::ALL.into_iter().all(|level| {
+            let nil = |at| partition.image.data_pair(self.f, level.fib_word(at)) == NIL;
+            (self.count(level)..level.in_fib()).all(nil)
+        })
     }
 
     /// Whether the FIB's words 249 and 251-255 are those of its index.
@@ -161,27 +147,16 @@ pub fn candidate(partition: &Partition, f: u32) -> bool {
         && partition.image.names(partition.image.serial(f), Some(f))
 }
 
-/// The file of candidate f, unless it is malformed. Its blocks go to `each` in link order,
-/// -(3+P) ... -4, -1, 0 ... L, as far as they are good.
+/// The file of candidate f, unless it is malformed. Its blocks go to `each` in link order, as far as
+/// they are good.
 pub fn well_formed(partition: &Partition, f: u32, mut each: impl FnMut(u32)) -> Option<File> {
-    let image = &partition.image;
-    let last = image.data_signed(f, LAST_BLOCK);
+    let last = partition.image.data_signed(f, LAST_BLOCK);
     let file = File { f, last };
     if !(-1..=LAST_RELATIVE as i32).contains(&last) || !file.rest_is_nil(partition) {
         return None;
     }
-    let serial = image.drive.pda(f);
-    let named = |lda: u32, relative: i32| {
-        let b = partition.block_of_lda(lda)?;
-        (image.serial(b) == serial && image.relative(b) == relative).then_some(b)
-    };
-    for indirect in (0..file.pointers()).rev() {
-        let lda = image.data_pair(f, indirect_word(indirect));
-        each(named(lda, pointer_relative(indirect))?);
-    }
-    each(f);
-    for r in 0..file.length() {
-        each(named(file.entry(partition, r), r as i32)?);
+    for relative in file.linked() {
+        each(file.find(partition, relative)?);
     }
     file.tallies(partition).then_some(file)
 }

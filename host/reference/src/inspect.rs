@@ -23,7 +23,7 @@ pub fn files(image: &[u8], drive: u32, s: u32) -> Option<Vec<File>> {
     sound_partition(image, drive, s).map(|(_, survey)| survey.files)
 }
 
-/// The blocks of file f in link order: -(3+P) ... -4, -1, 0 ... L.
+/// The blocks of file f in link order: -(3+P) ... -4, then -3 and -2 if they are there, -1, 0 ... L.
 pub fn file_blocks(image: &[u8], drive: u32, s: u32, f: u32) -> Option<Vec<u32>> {
     let (partition, _) = sound_partition(image, drive, s)?;
     let mut blocks = Vec::new();

@@ -1,7 +1,7 @@
 //! An independent implementation of the rules of document 01 (one partition on a lent volume image),
-//! and of requests 1 (directory names) and 2 (low address bits) of document 02. It was written from
-//! these two documents, perq.h with the calls of request 1, and the decisions that docs/DIRECTORIES.md
-//! lists. Tests and benchmarks compare another library with it.
+//! and of requests 1 (directory names), 2 (low address bits) and 4 (big files) of document 02. It was
+//! written from these two documents, perq.h with the calls of request 1, and the decisions that
+//! docs/DIRECTORIES.md lists. Tests and benchmarks compare another library with it.
 //!
 //! The calls of the headers are here under the same names without `perq_`. The other public modules
 //! hold the parts they are made of, which tests may also use.
@@ -13,6 +13,7 @@ pub mod changing;
 pub mod directory;
 pub mod file;
 pub mod image;
+pub mod index;
 pub mod inspect;
 pub mod plan;
 pub mod random_tree;

@@ -17,11 +17,15 @@ pub struct Plan {
 
 impl Plan {
     /// A done call; `a` is its value, `deciding` the block of its deciding store.
-    pub fn done(stores: Vec<(u32, Record)>, deciding: Option<u32>, a: u32) -> Plan {
+    pub fn done(
+        stores: impl IntoIterator<Item = (u32, Record)>,
+        deciding: Option<u32>,
+        a: u32,
+    ) -> Plan {
+        let stores: Vec<_> = stores.into_iter().map(|(b, record)| (b, record.bytes())).collect();
         let place = |block| stores.iter().position(|&(b, _)| b == block);
         let deciding = deciding.and_then(place).unwrap_or(stores.len());
         let answer = Answer { made: stores.len() as u32, ..Answer::done(a, 0, 0) };
-        let stores = stores.into_iter().map(|(b, record)| (b, record.bytes())).collect();
         Plan { answer, stores, deciding }
     }
 

@@ -2,8 +2,9 @@
 //! and extract (a whole file; not in perq.h, refused in the order 1, 2, 6, 4, 3).
 
 use crate::answer::{settle, Answer, Refusal, REFUSED};
-use crate::file::{candidate, file_at, well_formed, DESCRIPTION, LAST_RELATIVE};
+use crate::file::{candidate, file_at, well_formed, DESCRIPTION};
 use crate::image::{Partition, DATA, HEADER, RECORD};
+use crate::index::LAST_RELATIVE;
 
 /// a = the lowest file above `after`; absent if there is none.
 pub fn next_file(image: &[u8], drive: u32, s: u32, after: u32) -> Answer {

@@ -1,10 +1,11 @@
-//! The call repair: relinks every file by its index, clears unused entries of last pointer blocks,
-//! and chains all unowned blocks in ascending order. Links in the image are not read.
+//! The call repair: relinks every file by its index, clears unused entries of last pointer blocks and of
+//! -2 and -3, and chains all unowned blocks in ascending order. Links in the image are not read.
 
 use crate::address::NIL;
 use crate::answer::{Answer, Refusal};
-use crate::file::{well_formed, ENTRIES};
+use crate::file::well_formed;
 use crate::image::{Partition, FREE_HEAD, FREE_TAIL, NUMBER_FREE};
+use crate::index::ENTRIES;
 use crate::plan::Plan;
 use crate::record::Record;
 use crate::sound::{survey, Survey};
@@ -14,7 +15,7 @@ use crate::sound::{survey, Survey};
 struct Relinked {
     next: u32,
     previous: u32,
-    /// Entries from here on become nil: 128 but in a last pointer block.
+    /// Entries from here on become nil: 128 but in a last pointer block, -2 or -3.
     used_entries: u32,
 }
 
@@ -26,9 +27,8 @@ pub fn plan_repair(image: &[u8], drive: u32, s: u32) -> Plan {
         Refusal::unless(!free.is_empty(), 9)?;
         let relinked = relink(&partition, &survey, &free);
         let store = |b| (b, repaired(&partition, b, relinked[(b - s) as usize], &survey, free[0]));
-        let mut stores: Vec<_> = partition.blocks().map(store).collect();
-        stores.push((s, repaired_pib(&partition, &free)));
-        Ok(Plan::done(stores, None, 0))
+        let pib = (s, repaired_pib(&partition, &free));
+        Ok(Plan::done(partition.blocks().map(store).chain([pib]), None, 0))
     };
     Plan::settle(planned())
 }
@@ -42,8 +42,9 @@ fn relink(partition: &Partition, survey: &Survey, free: &[u32]) -> Vec<Relinked>
         let mut blocks = Vec::with_capacity(file.blocks_in_use() as usize);
         well_formed(partition, file.f, |b| blocks.push(b));
         link(partition, &blocks, &mut relinked);
-        if file.pointers() >= 1 {
-            relinked[(blocks[0] - partition.s) as usize].used_entries = file.used_entries();
+        for (relative, used) in file.last_holders() {
+            let b = file.block(partition, relative);
+            relinked[(b - partition.s) as usize].used_entries = used;
         }
     }
     relinked

@@ -2,12 +2,12 @@
 //! They are built directly, so that a large partition takes no time; tests compare them with the calls.
 
 use crate::address::{Drive, NIL};
-use crate::file::{direct_word, entry_word, indirect_word, place, pointer_relative, File, Place};
 use crate::file::{
-    BLOCKS_IN_USE, FIB, KIND, LAST_ADDRESS, LAST_BLOCK, LAST_NEGATIVE, LAST_NEGATIVE_ADDRESS,
+    File, BLOCKS_IN_USE, KIND, LAST_ADDRESS, LAST_BLOCK, LAST_NEGATIVE, LAST_NEGATIVE_ADDRESS,
 };
 use crate::image::{DATA, FILLER, FREE_HEAD, FREE_TAIL, HEADER, NEXT, NUMBER_FREE, PARTITION_END};
 use crate::image::{PARTITION_START, PREVIOUS, RECORD, RELATIVE, SERIAL};
+use crate::index::{place, Level, FIB};
 
 /// A xorshift generator: the same seed gives the same numbers.
 #[derive(Clone, Debug)]
@@ -49,14 +49,14 @@ pub fn fresh(drive: u32, n: u32, s: u32, e: u32) -> Vec<u8> {
     scattered(drive, n, s, e, &[], 0)
 }
 
-/// A sound partition with one file for each of `lengths` (L+1, at most 4,160). File i has its FIB at
+/// A sound partition with one file for each of `lengths` (L+1, at most 32,508). File i has its FIB at
 /// s+1+i and kind i; then the files grow block by block in the order of `growth`, with data of
 /// `content`. It is what create and write make of a fresh partition. At least one block must remain.
 pub fn scattered(drive: u32, n: u32, s: u32, e: u32, lengths: &[u32], seed: u64) -> Vec<u8> {
     let mut builder = Builder::new(drive, n, s, e);
     let mut files: Vec<Growing> = (0..lengths.len()).map(|i| builder.create(i as u16)).collect();
     for i in growth(lengths, seed) {
-        let data = content(seed, i, files[i].length);
+        let data = content(seed, i, files[i].file.length());
         builder.append(&mut files[i], &data);
     }
     for file in &files {
@@ -92,12 +92,19 @@ pub fn content(seed: u64, i: usize, r: u32) -> [u8; DATA] {
 
 /// A file while it is built.
 struct Growing {
-    f: u32,
-    length: u32,
-    /// Its last block so far; the FIB at first.
-    last: u32,
-    /// Its most negative block so far: the FIB at first, then its last pointer block.
-    most_negative: u32,
+    file: File,
+    /// The blocks of each level so far.
+    blocks: [Vec<u32>; 3],
+}
+
+impl Growing {
+    fn block(&self, relative: i32) -> u32 {
+        if relative == FIB {
+            return self.file.f;
+        }
+        let (level, at) = Level::of(relative);
+        self.blocks[level as usize][at as usize]
+    }
 }
 
 /// An image while it is built; blocks are taken in ascending order.
@@ -148,59 +155,57 @@ impl Builder {
     }
 
     /// Takes the first block not yet taken for file f. As the calls would have it, its filler is its
-    /// own LBN if it was first of the free chain, and s+1 if it was second (a pointer block).
-    fn take(&mut self, f: u32, relative: i32, filler: u32) {
+    /// own LBN if it was first of the free chain, and s+1 if it was second or third (a block of the
+    /// index).
+    fn take(&mut self, f: u32, relative: i32, filler: u32) -> u32 {
         let b = self.free;
         assert!(b < self.e, "the last free block is not handed out");
         self.free += 1;
         self.set_link(b, SERIAL, Some(f));
         self.set(b, RELATIVE, &(relative as u16).to_le_bytes());
         self.set(b, FILLER, &(filler as u16).to_le_bytes());
+        b
     }
 
     fn create(&mut self, kind: u16) -> Growing {
         let f = self.free;
         self.take(f, FIB, f);
         self.set_data_word(f, KIND, i32::from(kind));
-        Growing { f, length: 0, last: f, most_negative: f }
+        Growing { file: File { f, last: -1 }, blocks: Default::default() }
     }
 
-    fn append(&mut self, file: &mut Growing, data: &[u8]) {
-        let (r, b) = (file.length, self.free);
-        self.take(file.f, r as i32, b);
-        self.set(b, HEADER / 2, data);
-        self.set_link(file.last, NEXT, Some(b));
-        self.set_link(b, PREVIOUS, Some(file.last));
-        match place(r) {
-            Place::Direct(entry) => self.set_lda(file.f, direct_word(entry), b),
-            Place::Indirect { indirect, entry } => {
-                if entry == 0 {
-                    self.add_pointer_block(file, indirect);
-                }
-                self.set_lda(file.most_negative, entry_word(entry), b);
+    /// Takes a data block, and the blocks of the index that it is the first to need.
+    fn append(&mut self, growing: &mut Growing, data: &[u8]) {
+        self.set(self.free, HEADER / 2, data);
+        growing.file.last += 1;
+        for level in Level::ALL {
+            let count = growing.blocks[level as usize].len() as u32;
+            if growing.file.count(level) > count {
+                let filler = if level == Level::Data { self.free } else { self.s + 1 };
+                let b = self.take(growing.file.f, level.relative(count), filler);
+                growing.blocks[level as usize].push(b);
             }
         }
-        file.last = b;
-        file.length += 1;
     }
 
-    fn add_pointer_block(&mut self, file: &mut Growing, indirect: u32) {
-        let b = self.free;
-        self.take(file.f, pointer_relative(indirect), self.s + 1);
-        self.set_link(file.most_negative, PREVIOUS, Some(b));
-        self.set_link(b, NEXT, Some(file.most_negative));
-        self.set_lda(file.f, indirect_word(indirect), b);
-        file.most_negative = b;
-    }
-
-    /// Writes the words of the FIB that follow from the index.
+    /// Links the blocks of a file, and writes its index and the words of the FIB that follow from it.
     fn close(&mut self, growing: &Growing) {
-        let file = File { f: growing.f, last: growing.length as i32 - 1 };
+        let file = growing.file;
+        for relative in file.linked() {
+            let b = growing.block(relative);
+            let to = |relative: Option<i32>| relative.map(|relative| growing.block(relative));
+            self.set_link(b, NEXT, to(file.next(relative)));
+            self.set_link(b, PREVIOUS, to(file.previous(relative)));
+            if relative != FIB {
+                let place = place(relative);
+                self.set_lda(growing.block(place.holder), place.word, b);
+            }
+        }
         self.set_data_word(file.f, BLOCKS_IN_USE, file.blocks_in_use() as i32);
         self.set_data_word(file.f, LAST_BLOCK, file.last);
-        self.set_lda(file.f, LAST_ADDRESS, growing.last);
+        self.set_lda(file.f, LAST_ADDRESS, growing.block(file.last));
         self.set_data_word(file.f, LAST_NEGATIVE, file.last_negative());
-        self.set_lda(file.f, LAST_NEGATIVE_ADDRESS, growing.most_negative);
+        self.set_lda(file.f, LAST_NEGATIVE_ADDRESS, growing.block(file.last_negative()));
     }
 
     /// Chains the blocks that were not taken and writes PIB words 0-5.

@@ -1,8 +1,10 @@
 //! Which blocks are owned, whether the partition is sound, and the call check.
 
+use crate::address::NIL;
 use crate::answer::{settle, Answer, Refusal};
-use crate::file::{candidate, entry_word, well_formed, File, ENTRIES};
+use crate::file::{candidate, well_formed, File};
 use crate::image::{Image, Partition};
+use crate::index::{entry_word, ENTRIES};
 
 /// The files of a partition that has no malformed candidate.
 pub struct Survey {
@@ -68,14 +70,13 @@ pub fn survey(partition: &Partition) -> Result<Survey, Refusal> {
     Ok(Survey { files, owned, owned_blocks, unowned_blocks, linked })
 }
 
-/// Whether the unused entries of the file's last pointer block are nil.
+/// Whether the unused entries of the file's last pointer block, and of -2 and -3, are nil.
 fn unused_entries_nil(partition: &Partition, file: &File) -> bool {
-    if file.pointers() == 0 {
-        return true;
-    }
-    let b = file.most_negative_block(partition);
-    let nil = |entry| partition.image.data_pair(b, entry_word(entry)) == 0;
-    (file.used_entries()..ENTRIES).all(nil)
+    file.last_holders().all(|(relative, used)| {
+        let b = file.block(partition, relative);
+        let nil = |entry| partition.image.data_pair(b, entry_word(entry)) == NIL;
+        (used..ENTRIES).all(nil)
+    })
 }
 
 /// Whether the chain from FreeHead visits every unowned block once and agrees with the PIB. The walk

@@ -2,7 +2,7 @@
 
 mod common;
 use common::*;
-use reference::file::{place, pointer_relative, Place};
+use reference::index::{place, Place};
 use reference::*;
 
 /// Two words as document 01 writes them: low, high.
@@ -49,15 +49,11 @@ fn m7_m8_fileids() {
 
 #[test]
 fn m9_to_m11_places() {
-    let rows = [(191, -4, 127), (192, -5, 0), (4_159, -35, 127)];
-    for (r, pointer, entry) in rows {
-        let Place::Indirect { indirect, entry: found } = place(r) else {
-            panic!("{r} is not direct");
-        };
-        assert_eq!((pointer_relative(indirect), found), (pointer, entry));
+    let rows = [(191, -4, 127), (192, -5, 0), (4_159, -35, 127), (64, -4, 0)];
+    for (r, holder, entry) in rows {
+        assert_eq!(place(r), Place { holder, word: 2 * entry });
     }
-    assert_eq!(place(63), Place::Direct(63));
-    assert_eq!(place(64), Place::Indirect { indirect: 0, entry: 0 });
+    assert_eq!(place(63), Place { holder: -1, word: 52 + 2 * 63 });
 }
 
 fn free(image: &[u8]) -> Vec<u32> {

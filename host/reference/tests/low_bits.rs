@@ -77,7 +77,7 @@ fn reads_alike(clean: &[u8], image: &[u8], drive: u32) {
             (description(image, drive, 5, f, &mut words), words)
         };
         assert_eq!(words(image), words(clean));
-        for r in (0..=length).chain([4_159, 4_160]) {
+        for r in (0..=length).chain([4_159, 4_160, 32_766, 32_767]) {
             assert_eq!(show(image, drive, 5, f, r), show(clean, drive, 5, f, r));
             let block = |image| {
                 let mut block = [1; 512];

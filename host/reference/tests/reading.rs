@@ -41,7 +41,7 @@ fn read_show_and_extract_agree() {
             assert_eq!(image[shown.a as usize..][..512], data);
             assert_eq!(whole[512 * r as usize..][..512], data);
         }
-        for r in [length, 4_159] {
+        for r in [length, 4_159, 4_160, 20_544, 32_766] {
             let mut block = [1; 512];
             assert_eq!(read(&image, 2, 5, f, r, &mut block), absent());
             assert_eq!(block, [0; 512]);
@@ -88,7 +88,8 @@ fn show_of_a_pair() {
     assert_eq!(pair(8, 2).b, 512);
     assert_eq!(pair(8, 3), from(absent(), 2));
     assert_eq!(pair(6, 0), from(show(&original, 2, 5, 6, 0), 2));
-    assert_eq!(pair(8, 4_160), from(refused(7), 2));
+    assert_eq!(pair(8, 32_766), from(absent(), 2));
+    assert_eq!(pair(8, 32_767), from(refused(7), 2));
     assert_eq!(pair(10, 0), from(refused(6), 2));
     let of = |original, repaired, f| show_pair(original, repaired, 2, 5, f, 0);
     assert_eq!(of(&repaired, &repaired, 6), from(malformed(6), 2));

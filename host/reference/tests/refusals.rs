@@ -96,8 +96,8 @@ fn three_for_a_wrong_buffer() {
     let before = whole.clone();
     for length in [0, 104, 511, 513] {
         let mut buffer = vec![7; length];
-        assert_eq!(read(&whole, 0, 2, 21, 5000, &mut buffer), refused(3));
-        assert_eq!(write(&mut whole, 0, 2, 21, 5000, &buffer, ALL), refused(3));
+        assert_eq!(read(&whole, 0, 2, 21, 40_000, &mut buffer), refused(3));
+        assert_eq!(write(&mut whole, 0, 2, 21, 40_000, &buffer, ALL), refused(3));
     }
     for length in [0, 103, 105, 512] {
         let mut buffer = vec![7; length];
@@ -124,7 +124,7 @@ fn four_names_the_lowest_or_f() {
         assert_eq!(answers[at], malformed(4));
     }
     assert_eq!(read(&whole, 0, 2, 3, 0, &mut [0; 512]).outcome, DONE);
-    assert_eq!(read(&whole, 0, 2, 4, 5000, &mut [0; 512]), malformed(4));
+    assert_eq!(read(&whole, 0, 2, 4, 40_000, &mut [0; 512]), malformed(4));
     assert_eq!(write(&mut whole, 0, 2, 21, 0, &[0; 512], ALL), malformed(4));
     set_word(&mut whole, 3, 8 + 249, 9);
     assert_eq!(check(&whole, 0, 2), malformed(3));
@@ -140,7 +140,7 @@ fn five_for_an_unsound_partition() {
     for at in [0, 6, 7, 8, 9] {
         assert_eq!(answers[at], refused(5));
     }
-    assert_eq!(write(&mut whole, 0, 2, 21, 5000, &[0; 512], ALL), refused(5));
+    assert_eq!(write(&mut whole, 0, 2, 21, 40_000, &[0; 512], ALL), refused(5));
     assert_eq!(repair(&mut whole, 0, 2, ALL).outcome, DONE);
     assert_eq!(check(&whole, 0, 2).outcome, DONE);
 }
@@ -149,7 +149,7 @@ fn five_for_an_unsound_partition() {
 fn six_for_no_candidate() {
     let whole = image();
     for f in [0, 1, 2, 5, 6, 7, 20, 21, 22, u32::MAX] {
-        let answers = every_call(&whole, 0, 2, f, 5000);
+        let answers = every_call(&whole, 0, 2, f, 40_000);
         for at in [2, 3, 4, 5, 7, 8, 9] {
             assert_eq!(answers[at], refused(6));
         }
@@ -160,20 +160,25 @@ fn six_for_no_candidate() {
 fn seven_for_r() {
     let whole = image();
     let mut buffer = [7; 512];
-    for r in [4_160, 5_000, u32::MAX] {
+    for r in [32_767, 32_768, 65_536, u32::MAX] {
         assert_eq!(read(&whole, 0, 2, 3, r, &mut buffer), refused(7));
         assert_eq!(show(&whole, 0, 2, 3, r), refused(7));
     }
     assert_eq!(buffer, [7; 512]);
-    assert_eq!(read(&whole, 0, 2, 3, 4_159, &mut buffer), absent());
-    assert_eq!(buffer, [0; 512]);
-    for r in [3, 4_159, 4_160, u32::MAX] {
+    for r in [2, 4_159, 4_160, 32_766] {
+        buffer = [7; 512];
+        assert_eq!(read(&whole, 0, 2, 3, r, &mut buffer), absent());
+        assert_eq!(buffer, [0; 512]);
+        assert_eq!(show(&whole, 0, 2, 3, r), absent());
+    }
+    for r in [3, 4_159, 4_160, 32_766, 32_767, u32::MAX] {
         assert_eq!(write(&mut whole.clone(), 0, 2, 3, r, &buffer, ALL), refused(7));
     }
     assert_eq!(write(&mut whole.clone(), 0, 2, 4, 1, &buffer, ALL), refused(7));
-    let full = sample::scattered(0, 4_200, 1, 4_199, &[4_160], 1);
-    assert_eq!(write(&mut full.clone(), 0, 1, 2, 4_160, &buffer, ALL), refused(7));
-    assert_eq!(write(&mut full.clone(), 0, 1, 2, 4_159, &buffer, ALL).made, 1);
+    let long = sample::scattered(0, 4_200, 1, 4_199, &[4_160], 1);
+    assert_eq!(write(&mut long.clone(), 0, 1, 2, 4_161, &buffer, ALL), refused(7));
+    assert_eq!(write(&mut long.clone(), 0, 1, 2, 4_160, &buffer, ALL).outcome, DONE);
+    assert_eq!(write(&mut long.clone(), 0, 1, 2, 4_159, &buffer, ALL).made, 1);
 }
 
 #[test]

@@ -51,6 +51,37 @@ fn large_partitions_are_sound() {
 }
 
 #[test]
+fn double_indexes_are_sound() {
+    // Blocks in use: 4,196 and 1 + 22,001 + 172 + 2 and 4,325; 20,709 and 4,193.
+    for (lengths, owned) in [(&[4_161, 22_001, 4_289][..], 30_697), (&[20_545, 4_160], 24_902)] {
+        let image = scattered(2, 40_000, 5_000, 37_766, lengths, 7);
+        let answer = check(&image, 2, 5_000);
+        assert_eq!((answer.outcome, answer.a, answer.b), (DONE, lengths.len() as u32, owned));
+    }
+    for drive in [1, 2] {
+        let image = scattered(drive, 40_000, 5_000, 37_766, &[32_508], 7);
+        let expected = Answer { a: 1, b: 32_765, c: 1, ..Answer::default() };
+        assert_eq!(check(&image, drive, 5_000), expected);
+    }
+}
+
+#[test]
+fn double_indexes_are_what_the_calls_make() {
+    let lengths = [4_290, 4_165];
+    let mut image = fresh(0, 8_600, 3, 8_590);
+    for i in 0..2 {
+        assert_eq!(create(&mut image, 0, 3, i, ALL).a, 4 + u32::from(i));
+    }
+    let mut grown = [0; 2];
+    for i in growth(&lengths, 6) {
+        let data = content(6, i, grown[i]);
+        assert_eq!(write(&mut image, 0, 3, 4 + i as u32, grown[i], &data, ALL).outcome, DONE);
+        grown[i] += 1;
+    }
+    assert!(image == scattered(0, 8_600, 3, 8_590, &lengths, 6));
+}
+
+#[test]
 fn scattered_files_are_interleaved() {
     let image = scattered(1, 1_000, 1, 999, &[300, 300], 9);
     let blocks = inspect::file_blocks(&image, 1, 1, 2).unwrap();

@@ -112,7 +112,7 @@ fn entries_outside_and_swapped() {
     set_pair(&mut image, 3, 8 + 52, second);
     set_pair(&mut image, 3, 8 + 54, first);
     assert_eq!(check(&image, 1, 2), malformed(3));
-    for last in [-2, i16::MIN, 4_160, i16::MAX] {
+    for last in [-2, i16::MIN, 4_160, 20_544, 32_766, i16::MAX] {
         let mut image = whole.clone();
         set_word(&mut image, 4, 8 + 250, last as u16);
         assert_eq!(check(&image, 1, 2), malformed(4));

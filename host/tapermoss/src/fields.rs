@@ -14,6 +14,7 @@ pub const TABLE: usize = 64;
 pub const SORT: usize = 8;
 pub const DIRECT: usize = 52;
 pub const INDIRECT: usize = 180;
+pub const DOUBLE: usize = 244;
 pub const KIND: usize = 248;
 pub const BLOCKS_IN_USE: usize = 249;
 pub const LAST_BLOCK: usize = 250;

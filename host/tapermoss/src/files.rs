@@ -5,6 +5,7 @@ use crate::directories::{Directories, ROWS};
 use crate::fields::{self, escaped, escaped_path, BLOCKS_IN_USE, KIND};
 use crate::hashing::RuleArguments;
 use crate::image::{PartitionArguments, Reading};
+use crate::index;
 use crate::names::hex;
 use crate::paths::Paths;
 use crate::problem::Problem;
@@ -59,7 +60,7 @@ fn list(image: &[u8], drive: Drive, s: u32, f: u32) -> Result<Listed, Refusal> {
         lbn: f,
         fileid: perq::lbn_to_fileid(drive, f).ok(),
         kind: fields::word(image, f, KIND),
-        blocks: volume::length(image, f),
+        blocks: index::length(image, f),
         in_use: fields::word(image, f, BLOCKS_IN_USE),
         name: fields::file_name(&description).map(<[u8]>::to_vec),
     })

@@ -15,6 +15,7 @@ mod files;
 mod hashing;
 mod held;
 mod image;
+mod index;
 mod keep;
 mod layout;
 mod learn;

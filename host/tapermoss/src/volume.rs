@@ -1,7 +1,7 @@
 //! What an image says of its partitions, and what a partition says of its blocks. Whether a partition is good and
 //! whether a block is a file is the library's answer; the rest is read from fields that the answer vouches for.
 
-use crate::fields::{self, DIRECT, INDIRECT, LAST_BLOCK, PARTITION_END, SUB_PARTITIONS, TABLE};
+use crate::fields::{self, PARTITION_END, SUB_PARTITIONS, TABLE};
 use perq::{Drive, Refusal};
 
 /// Every block at which a good partition starts. Asked for a file after the last block, the library looks at nothing
@@ -78,41 +78,4 @@ pub fn survey(image: &[u8], drive: Drive, s: u32) -> Result<Survey, Refusal> {
         }
     }
     Ok(survey)
-}
-
-/// The last block that a file can have.
-pub const LAST: u32 = 4_159;
-
-/// How many blocks a file of so many blocks of data needs, without its own one: the data and the pointer blocks.
-pub fn needed(length: u32) -> u32 {
-    length + pointers(length)
-}
-
-/// How many pointer blocks a file of so many blocks of data has.
-fn pointers(length: u32) -> u32 {
-    length.saturating_sub(64).div_ceil(128)
-}
-
-/// How many blocks of data a file has: L + 1.
-pub fn length(image: &[u8], f: u32) -> u32 {
-    (fields::word(image, f, LAST_BLOCK) as i16 + 1) as u32
-}
-
-/// The blocks that a file's index names.
-pub struct Index {
-    pub pointers: Vec<u32>,
-    pub data: Vec<u32>,
-}
-
-/// The index of a file, which the library has found to be well formed: every entry that it needs is an address.
-pub fn index(image: &[u8], drive: Drive, f: u32) -> Index {
-    let named = |block: u32, k: usize| perq::lda_to_lbn(drive, fields::pair(image, block, k)).ok();
-    let length = length(image, f) as usize;
-    let pointers: Vec<u32> =
-        (0..pointers(length as u32) as usize).filter_map(|i| named(f, INDIRECT + 2 * i)).collect();
-    let direct = (0..length.min(64)).filter_map(|r| named(f, DIRECT + 2 * r));
-    let indirect =
-        (64..length).filter_map(|r| named(*pointers.get((r - 64) / 128)?, 2 * ((r - 64) % 128)));
-    let data = direct.chain(indirect).collect();
-    Index { pointers, data }
 }

@@ -210,7 +210,7 @@ const REFUSALS: [(&str, &str, u64); 34] = [
     ("destroy @disk --path x", "refused", 6),
     ("cat @disk --file 10", "refused", 6),
     ("cat @malformed --file 7", "refused", 4),
-    ("show @disk --file 7 --block 4160", "refused", 7),
+    ("show @disk --file 7 --block 32767", "refused", 7),
     ("show --original @malformed --repaired @empty --file 7 --block 0", "refused", 4),
     ("map @disk --partition 5", "refused", 2),
     ("repair @malformed", "set aside", 4),

@@ -252,8 +252,8 @@ fn show_tells_absent_and_each_refusal_apart() {
     let show = |image, file, block| ["show", image, "--file", file, "--block", block];
     let absent = |file, block| printed_with(7, &show(&image, file, block));
     assert_eq!(absent("7", "3"), "file 7 has no block 3: it ends before\n");
-    assert_eq!(absent("8", "4159"), "file 8 has no block 4159: it ends before\n");
-    fails(&show(&image, "7", "4160"), "refused (7): block 4160 is beyond what file 7 can have");
+    assert_eq!(absent("8", "32766"), "file 8 has no block 32766: it ends before\n");
+    fails(&show(&image, "7", "32767"), "refused (7): block 32767 is beyond what file 7 can have");
     fails(&show(&image, "6", "0"), "refused (6): block 6 is no file of the partition at block 6");
     let broken = folder.put("broken", &malformed());
     fails(&show(&broken, "7", "0"), "refused (4): block 7 is a malformed file block");

@@ -47,8 +47,8 @@ fn from_a_pair_the_repaired_image_looks_a_path_up_unless_it_refuses() {
     assert_eq!(shown(&words, "none", "0"), (Some(7), String::new(), told.to_string()));
     let told = "tapermoss: the original image answered: the path 'letters>Old' is a dangling entry: it holds nil\n";
     assert_eq!(shown(&words, "letters>Old", "0"), (Some(7), String::new(), told.to_string()));
-    let told = "tapermoss: refused (7): block 4160 is beyond what file 9 can have\n";
-    assert_eq!(shown(&words, first, "4160"), (Some(1), String::new(), told.to_string()));
+    let told = "tapermoss: refused (7): block 32767 is beyond what file 9 can have\n";
+    assert_eq!(shown(&words, first, "32767"), (Some(1), String::new(), told.to_string()));
 }
 
 #[test]

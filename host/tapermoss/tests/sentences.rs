@@ -1,5 +1,6 @@
-//! The sentences that the tool prints are true: what a write cannot take, what repair mends, what standard input, a folder
-//! or a number is. Names in them are escaped and kept exactly in JSON, and an output that takes nothing breaks nothing.
+//! The sentences that the tool prints are true: what repair mends, what standard input, a folder or a number is; what a write
+//! cannot take is in write_sentences.rs. Names in them are escaped and kept exactly in JSON, and an output that takes nothing
+//! breaks nothing.
 
 mod common;
 
@@ -19,73 +20,6 @@ use std::path::PathBuf;
 use std::process::{Output, Stdio};
 
 const ALL: u32 = u32::MAX;
-
-// What a write cannot take.
-
-#[test]
-fn a_write_past_the_last_possible_block_says_so() {
-    let folder = Folder::new();
-    let image = folder.put("disk", &scattered(0, 24_210, 90, 24_209, &[4_160, 3], 5));
-    let one = folder.put("one", b"x");
-    let three = folder.put("three", &[1; 1_500]);
-    let write = |file, block, from| {
-        ["write", &image, "--file", file, "--block", block, "--from", from].map(str::to_string)
-    };
-    let beyond = |file, block: u32| {
-        format!(
-            "refused (7): file {file} cannot take block {block}: the last that a file can have is 4159"
-        )
-    };
-    let next = |file, block| {
-        format!("refused (7): file {file} cannot take block {block}: it is not there, and not the next one")
-    };
-    let cases = [
-        (write("91", "4160", &one), beyond(91, 4_160)),
-        (write("91", "4159", &three), beyond(91, 4_161)),
-        (write("91", "4161", &one), beyond(91, 4_161)),
-        (write("92", "4160", &one), beyond(92, 4_160)),
-        (write("92", "4294967295", &three), beyond(92, u32::MAX)),
-        (write("92", "4159", &one), next(92, 4_159)),
-        (write("92", "4", &one), next(92, 4)),
-    ];
-    for (arguments, sentence) in cases {
-        let arguments: Vec<&str> = arguments.iter().map(String::as_str).collect();
-        fails(&arguments, &sentence);
-    }
-    assert_eq!(folder.names(), ["disk", "one", "three"]);
-    printed(&["write", &image, "--file", "91", "--block", "4159", "--from", &one]);
-}
-
-/// The sample with as many blocks in file 8 as the reference can write, and how many these are.
-fn filled(byte: u8) -> (Vec<u8>, usize) {
-    let mut image = sample();
-    let blocks = (0..).find(|&r| {
-        let answer = reference::write(&mut image, FLOPPY, 6, 8, r, &[byte; 512], ALL);
-        assert!(answer.outcome == reference::DONE || answer.number == 8);
-        answer.outcome == reference::REFUSED
-    });
-    (image, blocks.expect("it is full at last") as usize)
-}
-
-#[test]
-fn what_would_not_fit_is_refused_before_the_first_block() {
-    let folder = Folder::new();
-    let (expected, blocks) = filled(5);
-    let image = folder.put("disk", &sample());
-    let fits = folder.put("fits", &vec![5; 512 * blocks]);
-    let large = folder.put("large", &vec![5; 512 * blocks + 1]);
-    let limits: [&[&str]; 4] = [&[], &["--limit", "0"], &["--limit", "4"], &["--limit", "400"]];
-    for limit in limits {
-        let write = [&["write", &image, "--file", "8", "--from", &large], limit].concat();
-        fails(
-            &write,
-            "refused (8): file 8 needs 348 blocks more, and the partition at block 6 has 348 free, of which one must stay",
-        );
-    }
-    assert_eq!(folder.names(), ["disk", "fits", "large"]);
-    printed(&["write", &image, "--file", "8", "--from", &fits]);
-    assert!(folder.read("disk.new") == expected);
-}
 
 // What repair mends.
 

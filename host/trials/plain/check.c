@@ -1,6 +1,6 @@
-/* check.c: check as document 01 and request 2 of document 02 have it, written the way one would without a proof to carry.
- * It has a heap, marks there which blocks are owned and which the free chain has seen, and takes addresses apart field by
- * field. The benchmark measures the library against it; host/perq/tests/plain_check.rs holds its answers to the reference's.
+/* check.c: check as document 01 and requests 2 and 4 of document 02 have it, written the way one would without a proof to
+ * carry. It has a heap, marks there which blocks are owned and which the free chain has seen, and takes addresses apart field
+ * by field. The benchmark measures the library against it; host/perq/tests/plain_check.rs holds its answers to the reference's.
  */
 #include "check.h"
 #include <stdlib.h>
@@ -19,9 +19,9 @@ enum { FREE_HEAD = DATA, FREE_TAIL = DATA + 2, NUMBER_FREE = DATA + 4, START = D
 /* and of a FIB's. */
 enum { DIRECT = DATA + 52, INDIRECT = DATA + 180, DOUBLE = DATA + 244, IN_USE = DATA + 249, LAST = DATA + 250 };
 enum { LAST_ADDRESS = DATA + 251, LAST_NEGATIVE = DATA + 253, LAST_NEGATIVE_ADDRESS = DATA + 254 };
-/* Entries: a FIB's direct, indirect and double ones, and those of a pointer block. */
+/* Entries: a FIB's direct, indirect and double ones, and those of a pointer block, -2 or -3. */
 enum { DIRECTS = 64, INDIRECTS = 32, DOUBLES = 2, ENTRIES = 128 };
-enum { LARGEST_L = 4159, LARGEST_PARTITION = 32767, FIB = -1, NIL = 0 };
+enum { LARGEST_L = 32766, LARGEST_PARTITION = 32767, FIB = -1, NIL = 0 };
 
 /* No block. It is above every block of a partition. */
 #define NONE UINT32_MAX
@@ -35,6 +35,13 @@ struct partition {
     const uint8_t *image;
     uint32_t drive, s, e;
     uint8_t *marks; /* of block b at b - s */
+};
+
+/* What a file's index consists of. */
+struct index {
+    const uint8_t *fib;
+    uint32_t length, pointers, doubles; /* blocks but the FIB: data, pointer blocks over data, -2 and -3 */
+    const uint8_t *over[DOUBLES];       /* the records of -2 and -3 */
 };
 
 /* A file on the way along its blocks, in the order of their links. */
@@ -152,33 +159,72 @@ static inline void step(struct walk *w, uint32_t b, const uint8_t *record, uint3
     w->pda = pda;
 }
 
-/* Goes on to the block that an index entry names; 0 if it is not the file's relative block of this number. */
-static inline int enter(struct walk *w, const uint8_t *index, size_t at, int32_t relative) {
-    uint32_t b = named(w->p, index, at);
+/* Whether block b is the file's relative block of this number. */
+static inline int is_own(const struct walk *w, uint32_t b, int32_t relative) {
     const uint8_t *record;
     if (!holds(w->p, b)) {
         return 0;
     }
     record = record_of(w->p, b);
-    if (pair(record, SERIAL) != w->serial || signed_word(record, RELATIVE) != relative) {
+    return pair(record, SERIAL) == w->serial && signed_word(record, RELATIVE) == relative;
+}
+
+/* Goes on to block b; 0 if it is not the file's relative block of this number. */
+static inline int enter(struct walk *w, uint32_t b, int32_t relative) {
+    if (!is_own(w, b, relative)) {
         return 0;
     }
-    step(w, b, record, pda_of(w->p->drive, b));
+    step(w, b, record_of(w->p, b), pda_of(w->p->drive, b));
     return 1;
 }
 
-/* Goes on to relative blocks 0..L, `length` of them, the pointer blocks being good; 0 if one is not as it should be. */
-static int enter_data(struct walk *w, const uint8_t *fib, uint32_t length) {
-    uint32_t r = 0;
+/* The block named for -2 (0) or -3 (1). */
+static inline uint32_t double_named(const struct partition *p, const struct index *x, uint32_t i) {
+    return named(p, x->fib, DOUBLE + 2 * i);
+}
+
+/* The block named for pointer block -4-j: the FIB names the first 32, then -2 and -3, which are good, 128 each. */
+static inline uint32_t pointer_named(const struct partition *p, const struct index *x, uint32_t j) {
+    if (j < INDIRECTS) {
+        return named(p, x->fib, INDIRECT + 2 * j);
+    }
+    j -= INDIRECTS;
+    return named(p, x->over[j / ENTRIES], DATA + 2 * (j % ENTRIES));
+}
+
+/* Goes on to -(3+P) .. -4 and then to -3 and -2, which are looked at first; 0 if one is not as it should be. */
+static int enter_pointers(struct walk *w, struct index *x) {
+    for (uint32_t i = 0; i < x->doubles; i++) {
+        uint32_t b = double_named(w->p, x, i);
+        if (!is_own(w, b, -2 - (int32_t)i)) {
+            return 0;
+        }
+        x->over[i] = record_of(w->p, b);
+    }
+    for (uint32_t j = x->pointers; j-- > 0;) {
+        if (!enter(w, pointer_named(w->p, x, j), -4 - (int32_t)j)) {
+            return 0;
+        }
+    }
+    for (uint32_t i = x->doubles; i-- > 0;) {
+        uint32_t b = double_named(w->p, x, i);
+        step(w, b, x->over[i], pda_of(w->p->drive, b));
+    }
+    return 1;
+}
+
+/* Goes on to relative blocks 0..L, the pointer blocks being good; 0 if one is not as it should be. */
+static int enter_data(struct walk *w, const struct index *x) {
+    uint32_t length = x->length, r = 0;
     for (; r < length && r < DIRECTS; r++) {
-        if (!enter(w, fib, DIRECT + 2 * r, (int32_t)r)) {
+        if (!enter(w, named(w->p, x->fib, DIRECT + 2 * r), (int32_t)r)) {
             return 0;
         }
     }
     while (r < length) {
-        const uint8_t *pointers = record_of(w->p, named(w->p, fib, INDIRECT + 2 * ((r - DIRECTS) / ENTRIES)));
+        const uint8_t *pointers = record_of(w->p, pointer_named(w->p, x, (r - DIRECTS) / ENTRIES));
         for (uint32_t entry = 0; entry < ENTRIES && r < length; entry++, r++) {
-            if (!enter(w, pointers, DATA + 2 * entry, (int32_t)r)) {
+            if (!enter(w, named(w->p, pointers, DATA + 2 * entry), (int32_t)r)) {
                 return 0;
             }
         }
@@ -186,44 +232,62 @@ static int enter_data(struct walk *w, const uint8_t *fib, uint32_t length) {
     return 1;
 }
 
+/* How many blocks name those of a level that the FIB, with `entries` for it, does not. */
+static inline uint32_t blocks_over(uint32_t count, uint32_t entries) {
+    return count <= entries ? 0 : (count - entries + ENTRIES - 1) / ENTRIES;
+}
+
+/* Whether the last of those blocks has nil in the entries that it does not use. */
+static inline int rest_nil(const uint8_t *last, uint32_t count, uint32_t entries) {
+    uint32_t used = (count - entries - 1) % ENTRIES + 1;
+    return all_nil(last, DATA + 2 * used, ENTRIES - used);
+}
+
+/* Whether the FIB's entries for a level, from word `first` on, are nil but for the first `count`. */
+static inline int fib_rest_nil(const uint8_t *fib, size_t first, uint32_t count, uint32_t entries) {
+    uint32_t used = count < entries ? count : entries;
+    return all_nil(fib, first + 2 * used, entries - used);
+}
+
 /* Whether the FIB says nothing else than its index: entries that are not needed are nil, and words 249 and 251-255 fit. */
-static int agrees(const struct partition *p, const uint8_t *fib, uint32_t length, uint32_t pointers, uint32_t last,
-                  uint32_t most_negative) {
-    uint32_t directs = length < DIRECTS ? length : DIRECTS;
-    return all_nil(fib, DIRECT + 2 * directs, DIRECTS - directs) &&
-           all_nil(fib, INDIRECT + 2 * pointers, INDIRECTS - pointers) && all_nil(fib, DOUBLE, DOUBLES) &&
-           word(fib, IN_USE) == 1 + length + pointers && named(p, fib, LAST_ADDRESS) == last &&
-           signed_word(fib, LAST_NEGATIVE) == (pointers == 0 ? FIB : -3 - (int32_t)pointers) &&
+static int agrees(const struct partition *p, const struct index *x, uint32_t last, uint32_t most_negative) {
+    const uint8_t *fib = x->fib;
+    return fib_rest_nil(fib, DIRECT, x->length, DIRECTS) && fib_rest_nil(fib, INDIRECT, x->pointers, INDIRECTS) &&
+           (x->doubles > 0 || pair(fib, DOUBLE) == NIL) && (x->doubles > 1 || pair(fib, DOUBLE + 2) == NIL) &&
+           word(fib, IN_USE) == 1 + x->length + x->pointers + x->doubles && named(p, fib, LAST_ADDRESS) == last &&
+           signed_word(fib, LAST_NEGATIVE) == (x->pointers == 0 ? FIB : -3 - (int32_t)x->pointers) &&
            named(p, fib, LAST_NEGATIVE_ADDRESS) == most_negative;
 }
 
 /* Judges candidate f: its number of blocks, all marked, or 0 if it is malformed. *sound becomes 0 where a link, or an
- * unused entry of the last pointer block, is wrong. */
+ * unused entry of the last pointer block, of -2 or of -3, is wrong. */
 static uint32_t judge(struct partition *p, uint32_t f, int *sound) {
     const uint8_t *fib = record_of(p, f);
     struct walk w = {p, pair(fib, SERIAL), NULL, NONE, NIL, 1};
     int32_t l = signed_word(fib, LAST);
-    uint32_t length = (uint32_t)(l + 1), pointers, most_negative = f;
+    struct index x = {fib, (uint32_t)(l + 1), 0, 0, {NULL, NULL}};
+    uint32_t most_negative = f;
     if (l < -1 || l > LARGEST_L) {
         return 0;
     }
-    pointers = length <= DIRECTS ? 0 : (length - DIRECTS + ENTRIES - 1) / ENTRIES;
-    for (uint32_t i = pointers; i-- > 0;) {
-        if (!enter(&w, fib, INDIRECT + 2 * i, -4 - (int32_t)i)) {
+    if (x.length > DIRECTS) {
+        x.pointers = blocks_over(x.length, DIRECTS);
+        x.doubles = blocks_over(x.pointers, INDIRECTS);
+        if (!enter_pointers(&w, &x)) {
             return 0;
         }
+        most_negative = pointer_named(p, &x, x.pointers - 1);
+        *sound &= rest_nil(record_of(p, most_negative), x.length, DIRECTS);
     }
-    if (pointers > 0) {
-        uint32_t used = length - DIRECTS - (pointers - 1) * ENTRIES;
-        most_negative = named(p, fib, INDIRECT + 2 * (pointers - 1));
-        *sound &= all_nil(record_of(p, most_negative), DATA + 2 * used, ENTRIES - used);
+    if (x.doubles > 0) {
+        *sound &= rest_nil(x.over[x.doubles - 1], x.pointers, INDIRECTS);
     }
     step(&w, f, fib, w.serial);
-    if (!enter_data(&w, fib, length) || !agrees(p, fib, length, pointers, w.block, most_negative)) {
+    if (!enter_data(&w, &x) || !agrees(p, &x, w.block, most_negative)) {
         return 0;
     }
     *sound &= w.linked && pair(w.at, NEXT) == NIL;
-    return 1 + length + pointers;
+    return 1 + x.length + x.pointers + x.doubles;
 }
 
 /* ---- The free chain */

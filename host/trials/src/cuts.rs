@@ -1,7 +1,7 @@
 //! A changing call under every limit, and what of it the stores tell.
 
 use crate::both::Both;
-use crate::call::{Call, Name};
+use crate::call::{on_library, Call, Name};
 use perq::RECORD;
 use reference::{Answer, Plan};
 
@@ -27,6 +27,24 @@ pub fn every_limit(both: &mut Both, call: &Call) -> Answer {
         assert_eq!(answer.made, stores.min(limit), "stores made of {:?} under {limit}", call.name);
     }
     both.call(&call.clone().with_limit(u32::MAX))
+}
+
+/// The blocks that the library stores, one by one, in their order; the image is left as after the whole call.
+pub fn stored(image: &mut Vec<u8>, call: &Call) -> Vec<u32> {
+    let mut blocks = Vec::new();
+    let mut last = image.clone();
+    for limit in 1.. {
+        let mut next = image.clone();
+        let mut buffer = call.buffer.clone();
+        let answer = on_library(&call.clone().with_limit(limit), &mut next, &[], &mut buffer);
+        if answer.made < limit {
+            break;
+        }
+        blocks.extend(changed_blocks(&last, &next));
+        last = next;
+    }
+    *image = last;
+    blocks
 }
 
 /// The blocks in which two images differ.

@@ -1,8 +1,8 @@
 //! Damage to an image: a field that a rule reads gets another value, likely ones among them, or records change places.
 
 use crate::images::{
-    entry_addresses, fib_addresses, is_candidate, pair, pointer_addresses, record, set_pair,
-    set_record, set_word, word, Place, DATA_WORD, PIB_ADDRESSES,
+    entry_addresses, fib_addresses, is_candidate, is_pointer, pair, pointer_addresses, record,
+    set_pair, set_record, set_word, word, Place, DATA_WORD, PIB_ADDRESSES,
 };
 use crate::low_bits::LOW;
 use reference::directory::SORT;
@@ -53,7 +53,7 @@ pub fn entry_fields() -> Vec<Field> {
     addresses.flat_map(|at| [one(at - 1), two(at), one(at + 2)]).collect()
 }
 
-/// The 128 entries of a pointer block.
+/// The 128 entries of a pointer block, -2 and -3 among them.
 pub fn pointer_fields() -> Vec<Field> {
     pointer_addresses().map(|at| two(DATA_WORD + at)).collect()
 }
@@ -88,8 +88,9 @@ fn other_kind(place: &Place, value: u32) -> u32 {
 
 /// Values worth trying in a field of one word that now holds `old`.
 pub fn likely_words(old: u16) -> Vec<u16> {
-    let mut values = vec![0, 1, 3, 63, 64, 65, 191, 192, 4_158, 4_159, 4_160, 0x7FFF, 0x8000];
-    values.extend([65_535, 65_534, 65_533, 65_532, 65_531, 65_501, 65_500]);
+    let mut values = vec![0, 1, 3, 63, 64, 65, 191, 192, 4_158, 4_159, 4_160, 20_543, 20_544];
+    values.extend([32_765, 32_766, 0x7FFF, 0x8000]);
+    values.extend([-1_i16, -2, -3, -4, -5, -35, -36, -163, -164].map(|number| number as u16));
     values.extend([old.wrapping_add(1), old.wrapping_sub(1), old.wrapping_neg(), old ^ 0x8000]);
     values
 }
@@ -152,6 +153,22 @@ fn block_like(place: &Place, rng: &mut Rng, is_like: impl Fn(u32) -> bool) -> u3
     }
 }
 
+/// A pointer block; in a partition that can hold a big file it is -2 or -3 as often as another one.
+fn some_pointer(image: &[u8], place: &Place, rng: &mut Rng) -> u32 {
+    let is_double = |b: u32| (-3..=-2).contains(&(word(image, b, RELATIVE) as i16));
+    let double = place.e - place.s > 4_160 && rng.below(2) == 0;
+    block_like(place, rng, |b| if double { is_double(b) } else { is_pointer(image, b) })
+}
+
+/// The header of a pointer block, or entries: all, or the first ones, which are used.
+fn some_pointer_fields(rng: &mut Rng) -> Vec<Field> {
+    match rng.below(4) {
+        0 => header_fields(),
+        1 => pointer_fields()[..4].to_vec(),
+        _ => pointer_fields(),
+    }
+}
+
 /// Copies a record over another one, or has the two change places.
 fn misplace(image: &mut [u8], place: &Place, rng: &mut Rng) {
     let (one, other) = (place.any_block(rng), place.any_block(rng));
@@ -164,22 +181,22 @@ fn misplace(image: &mut [u8], place: &Place, rng: &mut Rng) {
 
 /// One random damage.
 pub fn damage(image: &mut [u8], place: &Place, rng: &mut Rng) {
-    match rng.below(9) {
+    match rng.below(10) {
         0 | 1 => set_some_field(image, place, place.any_block(rng), &header_fields(), rng),
         2 | 3 => {
             let b = block_like(place, rng, |b| is_candidate(image, place, b));
             set_some_field(image, place, b, &fib_fields(), rng);
         }
         4 => set_some_field(image, place, place.s, &pib_fields(), rng),
-        5 => {
-            let b = block_like(place, rng, |b| (word(image, b, RELATIVE) as i16) < -3);
-            set_some_field(image, place, b, &pointer_fields(), rng);
+        5 | 6 => {
+            let b = some_pointer(image, place, rng);
+            set_some_field(image, place, b, &some_pointer_fields(rng), rng);
         }
-        6 => {
+        7 => {
             let b = block_like(place, rng, |b| (word(image, b, RELATIVE) as i16) >= 0);
             set_some_field(image, place, b, &entry_fields(), rng);
         }
-        7 => misplace(image, place, rng),
+        8 => misplace(image, place, rng),
         _ => {
             let at = RECORD * place.any_block(rng) as usize + rng.below(RECORD as u32) as usize;
             image[at] ^= 1 << rng.below(8);

@@ -47,9 +47,10 @@ fn file(place: &Place, files: &[u32], rng: &mut Rng) -> u32 {
 }
 
 fn block(length: u32, rng: &mut Rng) -> u32 {
-    const EDGES: [u32; 11] = [0, 63, 64, 65, 191, 192, 193, 4_159, 4_160, 65_536, u32::MAX];
+    const SHORT: [u32; 10] = [0, 63, 64, 65, 191, 192, 193, 65_535, 65_536, u32::MAX];
+    const LONG: [u32; 8] = [4_159, 4_160, 4_287, 4_288, 20_543, 20_544, 32_766, 32_767];
     match rng.below(8) {
-        0 => choose(&EDGES, rng),
+        0 => choose(if rng.below(2) == 0 { &SHORT } else { &LONG }, rng),
         1 => length + 1,
         2..=4 => length,
         _ => rng.below(length + 1),
@@ -138,7 +139,7 @@ pub fn call(names: &[Name], image: &[u8], place: &Place, files: &[u32], rng: &mu
     let limit = match rng.below(10) {
         0..=4 => u32::MAX,
         5 => rng.below(place.n + 2),
-        _ => rng.below(9),
+        _ => rng.below(12),
     };
     let buffer = buffer(right_buffer(name, length, rng), rng);
     let r = block(length, rng);

@@ -1,12 +1,14 @@
 //! Images to make calls on: places of words in them, and sound partitions whose blocks lie in any order.
 
 use crate::call::{Call, Name};
+use crate::low_bits::LOW;
 use reference::directory::{ADDRESS, ENTRY};
 use reference::file::{DIRECT, FIB, KIND, LAST_ADDRESS, LAST_NEGATIVE_ADDRESS};
 use reference::image::{
     DATA, FREE_HEAD, FREE_TAIL, HEADER, NEXT, PREVIOUS, RECORD, RELATIVE, SERIAL,
 };
 use reference::image::{PARTITION_END, PARTITION_START, ROOT_DIRECTORY};
+use reference::index;
 use reference::sample::{scattered, Rng};
 use reference::{lbn_to_lda, lbn_to_pda, lda_to_lbn, pda_to_lbn, DONE};
 
@@ -110,9 +112,35 @@ pub fn entry_addresses() -> impl Iterator<Item = usize> {
     (0..DATA / 2).step_by(ENTRY / 2).map(|entry| entry + ADDRESS / 2)
 }
 
+/// The block that an LDA names, whatever its reserved bits are; none for nil, and for what names no block.
+pub fn named(place: &Place, lda: u32) -> Option<u32> {
+    let answer = lda_to_lbn(place.drive, lda & !LOW);
+    (answer.outcome == DONE).then_some(answer.a)
+}
+
+/// The block of the partition that two data words of block b name.
+pub fn block_at(image: &[u8], place: &Place, b: u32, word: usize) -> Option<u32> {
+    let block = named(place, pair(image, b, DATA_WORD + word))?;
+    (place.s + 1..=place.e).contains(&block).then_some(block)
+}
+
+/// The block that a file's index names for a relative number.
+pub fn indexed(image: &[u8], place: &Place, f: u32, relative: i32) -> Option<u32> {
+    if relative == FIB {
+        return Some(f);
+    }
+    let index::Place { holder, word } = index::place(relative);
+    block_at(image, place, indexed(image, place, f, holder)?, word)
+}
+
 /// Whether block b says that it is a file's own block.
 pub fn is_candidate(image: &[u8], place: &Place, b: u32) -> bool {
     pair(image, b, SERIAL) == place.pda(b) && word(image, b, RELATIVE) == FIB as u16
+}
+
+/// Whether block b says that it is a pointer block, -2 or -3 among them.
+pub fn is_pointer(image: &[u8], b: u32) -> bool {
+    (word(image, b, RELATIVE) as i16) < FIB as i16
 }
 
 /// A sound partition with files of these lengths, its blocks in a random order, and noise wherever no rule looks.
@@ -170,8 +198,8 @@ fn address_words(image: &[u8], place: &Place, b: u32) -> Vec<usize> {
     if is_candidate(image, place, b) {
         return fib_addresses().collect();
     }
-    let is_pointer = pair(image, b, SERIAL) != 0 && (word(image, b, RELATIVE) as i16) < FIB as i16;
-    pointer_addresses().filter(|_| is_pointer).collect()
+    let is_one = pair(image, b, SERIAL) != 0 && is_pointer(image, b);
+    pointer_addresses().filter(|_| is_one).collect()
 }
 
 /// Random bytes in all that a sound partition leaves open: the blocks outside it, its first block but for its own words,

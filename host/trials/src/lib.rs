@@ -4,6 +4,7 @@
 #![deny(unsafe_code)]
 
 pub mod batch_data;
+pub mod big;
 pub mod both;
 pub mod call;
 pub mod cuts;
@@ -18,7 +19,9 @@ pub mod plain;
 pub mod settings;
 pub mod shapes;
 pub mod sweep;
+pub mod table;
 pub mod tally;
 pub mod trees;
 pub mod worked;
 pub mod worked_file;
+pub mod worked_laying;

@@ -2,14 +2,13 @@
 //! LDA of a partition, so that what the calls make of it can be compared with what they make of the image as it was.
 
 use crate::draw::candidates;
+use crate::images::{block_at, indexed, named, pair, set_pair, word, Place, DATA_WORD};
 use crate::images::{entry_addresses, fib_addresses, pointer_addresses, PIB_ADDRESSES};
-use crate::images::{pair, set_pair, word, Place, DATA_WORD};
 use crate::sweep;
 use reference::directory::{DIRECTORY, SORT};
-use reference::file::{self, direct_word, entry_word, indirect_word, INDIRECTS, LAST_RELATIVE};
 use reference::image::ROOT_DIRECTORY;
+use reference::index::{Level, LAST_RELATIVE};
 use reference::sample::Rng;
-use reference::{lda_to_lbn, DONE};
 
 /// The reserved bits of an address.
 pub const LOW: u32 = 0xFF;
@@ -33,33 +32,12 @@ impl Spot {
     }
 }
 
-/// The block that an LDA names, whatever its reserved bits are; none for nil, and for what names no block.
-fn named(place: &Place, lda: u32) -> Option<u32> {
-    let answer = lda_to_lbn(place.drive, lda & !LOW);
-    (answer.outcome == DONE).then_some(answer.a)
-}
-
-/// The block of the partition that two data words of block b name.
-fn block_at(image: &[u8], place: &Place, b: u32, word: usize) -> Option<u32> {
-    let block = named(place, pair(image, b, DATA_WORD + word))?;
-    (place.s + 1..=place.e).contains(&block).then_some(block)
-}
-
-/// The pointer blocks that a file's index names.
-fn pointer_blocks(image: &[u8], place: &Place, f: u32) -> Vec<u32> {
-    (0..INDIRECTS).filter_map(|i| block_at(image, place, f, indirect_word(i))).collect()
-}
-
-/// The data blocks that a file's index names.
-fn data_blocks(image: &[u8], place: &Place, f: u32) -> Vec<u32> {
-    let block = |r| match file::place(r) {
-        file::Place::Direct(entry) => block_at(image, place, f, direct_word(entry)),
-        file::Place::Indirect { indirect, entry } => {
-            let pointer = block_at(image, place, f, indirect_word(indirect))?;
-            block_at(image, place, pointer, entry_word(entry))
-        }
-    };
-    (0..sweep::length(image, f).min(LAST_RELATIVE + 1)).filter_map(block).collect()
+/// The blocks of a level that a file's index names, as far as its length goes; an indirect or double entry of the file's
+/// own block is looked at beyond that too.
+fn blocks(image: &[u8], place: &Place, f: u32, level: Level) -> Vec<u32> {
+    let needed = level.count(sweep::length(image, f).min(LAST_RELATIVE + 1));
+    let count = if level == Level::Data { needed } else { needed.max(level.in_fib()) };
+    (0..count).filter_map(|at| indexed(image, place, f, level.relative(at))).collect()
 }
 
 /// Where the LDAs of a partition stand that name a block of the drive: in its first block, in files' own blocks and their
@@ -73,11 +51,13 @@ pub fn spots(image: &[u8], place: &Place) -> Vec<Spot> {
     let root = block_at(image, place, place.s, ROOT_DIRECTORY);
     for f in candidates(image, place) {
         add(f, &mut fib_addresses());
-        for b in pointer_blocks(image, place, f) {
+        for b in
+            [Level::Pointer, Level::Double].map(|level| blocks(image, place, f, level)).concat()
+        {
             add(b, &mut pointer_addresses());
         }
         if root == Some(f) || word(image, f, DATA_WORD + SORT) == DIRECTORY {
-            for b in data_blocks(image, place, f) {
+            for b in blocks(image, place, f, Level::Data) {
                 add(b, &mut entry_addresses());
             }
         }

@@ -1,5 +1,5 @@
-//! The four shapes of partition that check is measured on: what a block costs depends on what it is part of. A partition
-//! begins at block 1 and fills its image; but for the last shape a tenth of it is free, in ascending order.
+//! The five shapes of partition that check is measured on: what a block costs depends on what it is part of. A partition
+//! begins at block 1 and fills its image; but for the last shape a part of it is free, in ascending order.
 
 use crate::images::{permutation, set_pair, Place, DATA_WORD};
 use reference::image::{FREE_HEAD, FREE_TAIL, NEXT, NUMBER_FREE, PREVIOUS};
@@ -8,9 +8,11 @@ use reference::sample::{blank, scattered, Rng};
 /// How a partition is filled.
 #[derive(Clone, Copy, Debug, PartialEq, Eq)]
 pub enum Shape {
-    /// Files of 4,160 blocks, the last one of what is left.
+    /// One file, which in the largest partition has 32,000 blocks of data.
+    One,
+    /// As many blocks of data in files of 4,000, the last one of what is left.
     Long,
-    /// Files of 60 blocks, which need no pointer block.
+    /// Files of 60 blocks, which need no pointer block; a tenth is free, as in the next shape.
     Short,
     /// Files without blocks.
     Empty,
@@ -19,12 +21,13 @@ pub enum Shape {
 }
 
 impl Shape {
-    pub const ALL: [Shape; 4] = [Shape::Long, Shape::Short, Shape::Empty, Shape::Free];
+    pub const ALL: [Shape; 5] = [Shape::One, Shape::Long, Shape::Short, Shape::Empty, Shape::Free];
 
     /// The shape in the words of a table.
     pub fn told(self) -> &'static str {
         match self {
-            Shape::Long => "long files",
+            Shape::One => "one file",
+            Shape::Long => "files of 4,000 blocks",
             Shape::Short => "files of 60 blocks",
             Shape::Empty => "empty files",
             Shape::Free => "free blocks",
@@ -35,7 +38,8 @@ impl Shape {
     pub fn image(self, drive: u32, m: u32) -> Vec<u8> {
         let room = m - 1 - m / 10;
         match self {
-            Shape::Long => files(drive, m, &long_lengths(room)),
+            Shape::One => files(drive, m, &[data_blocks(m)]),
+            Shape::Long => files(drive, m, &split(data_blocks(m), 4_000)),
             Shape::Short => files(drive, m, &vec![60; (room / 61) as usize]),
             Shape::Empty => files(drive, m, &vec![0; room as usize]),
             Shape::Free => free_blocks(&Place::whole(drive, m + 1)),
@@ -47,14 +51,14 @@ fn files(drive: u32, m: u32, lengths: &[u32]) -> Vec<u8> {
     scattered(drive, m + 1, 1, m, lengths, 1)
 }
 
-/// The lengths of files that fill so many blocks; what is left at the end, up to 100 blocks, is no file.
-fn long_lengths(mut room: u32) -> Vec<u32> {
-    let mut lengths = Vec::new();
-    while room > 100 {
-        lengths.push(room.min(4_194) - 1 - 33);
-        room -= room.min(4_194);
-    }
-    lengths
+/// How many blocks of data long files have in a partition of m blocks: 32,000 in the largest.
+fn data_blocks(m: u32) -> u32 {
+    (m * 63 / 64).saturating_sub(3).min(32_000)
+}
+
+/// The lengths of files that have so many blocks of data, each but the last `each`.
+fn split(blocks: u32, each: u32) -> Vec<u32> {
+    (0..blocks).step_by(each as usize).map(|from| each.min(blocks - from)).collect()
 }
 
 /// A partition without files whose free chain goes through all blocks in a random order.

@@ -39,13 +39,22 @@ pub fn length(image: &[u8], f: u32) -> u32 {
     (last + 1).clamp(0, (image.len() / RECORD) as i32) as u32
 }
 
+/// The blocks of a file of so many to ask for: at its ends and past them, where its index changes its form, and where no file
+/// has a block.
+pub fn edges(length: u32) -> Vec<u32> {
+    let mut edges = vec![0, length.saturating_sub(1), length, length + 1, 63, 64, 191, 192];
+    edges.extend([4_159, 4_160, 32_766, 32_767, u32::MAX]);
+    if length > 4_160 {
+        edges.extend([4_287, 4_288, 20_543, 20_544]);
+    }
+    edges
+}
+
 /// The calls on one file: at its first and last blocks and past them, and with buffers that are just too long.
 pub fn file(both: &mut Both, place: &Place, f: u32) {
     let length = length(both.image(), f);
     let base = |name| place.call(name).with_file(f);
-    let edges =
-        [0, length.saturating_sub(1), length, length + 1, 63, 64, 191, 192, 4_159, 4_160, u32::MAX];
-    for r in edges {
+    for r in edges(length) {
         both.call(&base(Name::Show).with_block(r));
         both.call(&base(Name::Read).with_block(r).with_buffer(&untouched(DATA)));
     }

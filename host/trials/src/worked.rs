@@ -46,6 +46,7 @@ fn run_case(case: &Case, side: Side) -> Vec<String> {
     for step in &case.steps {
         match step {
             Step::Put(at, bytes) => image[*at..][..bytes.len()].copy_from_slice(bytes),
+            Step::Lay(laying) => laying.lay(&mut image),
             Step::Call(expected) => {
                 calls += 1;
                 let wrong = run_call(expected, side, &mut image);

@@ -2,6 +2,7 @@
 //! format.
 
 use crate::call::{Call, Group, Name};
+use crate::worked_laying::Laying;
 use perq::RECORD;
 use reference::tree::ROW;
 use reference::Answer;
@@ -25,6 +26,8 @@ pub struct Expected {
 pub enum Step {
     /// These bytes go into the image from this byte on.
     Put(usize, Vec<u8>),
+    /// A partition is laid by rule.
+    Lay(Laying),
     Call(Box<Expected>),
 }
 
@@ -32,6 +35,9 @@ pub enum Step {
 #[derive(Clone, Debug)]
 pub struct Case {
     pub name: String,
+    pub drive: u32,
+    /// The partition that is meant.
+    pub s: u32,
     pub length: usize,
     pub steps: Vec<Step>,
 }
@@ -60,11 +66,13 @@ pub fn parse(text: &str) -> Result<Vec<Case>, String> {
 
 /// `case K drive D records N s S`
 fn start(words: &[&str]) -> Option<Case> {
-    let records: usize = words.get(5)?.parse().ok()?;
-    Some(Case { name: words.get(1)?.to_string(), length: RECORD * records, steps: Vec::new() })
+    let ["case", name, "drive", drive, "records", records, "s", s] = words else { return None };
+    let length = RECORD * records.parse::<usize>().ok()?;
+    let (name, drive, s) = (name.to_string(), drive.parse().ok()?, s.parse().ok()?);
+    Some(Case { name, drive, s, length, steps: Vec::new() })
 }
 
-/// A line of a case; a row belongs to the tree before it.
+/// A line of a case; a row belongs to the tree before it, a file or a chain to the partition before it.
 fn step(case: &mut Case, words: &[&str], line: usize) -> Option<()> {
     match words[0] {
         "put" => {
@@ -74,6 +82,15 @@ fn step(case: &mut Case, words: &[&str], line: usize) -> Option<()> {
             }
             case.steps.push(Step::Put(at, bytes));
         }
+        "partition" if case.steps.is_empty() => {
+            let records = (case.length / RECORD) as u32;
+            case.steps.push(Step::Lay(Laying::partition(words, case.drive, records, case.s)?));
+        }
+        "file" | "chain" => match case.steps.last_mut()? {
+            Step::Lay(laying) if words[0] == "file" => laying.file(words)?,
+            Step::Lay(laying) => laying.chain(words)?,
+            _ => return None,
+        },
         "call" => case.steps.push(Step::Call(Box::new(expected(words, line)?))),
         "row" => match case.steps.last_mut()? {
             Step::Call(expected) if expected.call.name == Name::Tree => {

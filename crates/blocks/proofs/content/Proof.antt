@@ -1,12 +1,12 @@
 use mathlib.Core.Path.{ap, _∙_}
 use borrow.Author.Needs.{needs}
 use Rattle.volume.specs.Plans.{trimmed}
-use Rattle.blocks.specs.Records.{pointer-key, shaped-pointer, shaped-other}
+use Rattle.blocks.specs.Records.{shaped-pointer, shaped-other}
 use Rattle.blocks.proofs.content.Statement.{statement}
 use Rattle.blocks.proofs.content.Tie as tie
 
 trimmed-requires : tie.Need-trimmed-requires
-trimmed-requires c κs = let h = c .before .before .before .pre in (h .1, pointer-key _ _ (h .1) (h .2) (c .if1 .taken))
+trimmed-requires c κs = (c .before .before .before .pre .1, c .if1 .taken)
 
 returns : tie.Need-returns
 returns c = c .trimmed .ensures ∙ ap (trimmed _ _) (c .before .before .«record» .ensures) ∙ shaped-pointer _ _ _ (c .before .if1 .taken)

@@ -1,8 +1,8 @@
 use mathlib.Core.Path.{sym, _∙_}
 use native.Mathlib.Omega.{arith}
-use borrow.Author.Tests.{not-true, not-false}
+use borrow.Author.Tests.{eqb-true, eqb-false, not-true, not-false}
 use Rattle.inspect.proofs.Laws.{opened-len}
-use Rattle.links.proofs.Laws.{opened, is-file, owned-nil, owned-not-file, owned-absent, owned-here, has-is}
+use Rattle.links.proofs.Laws.{opened, is-file, owned-nil, owned-not-file, owned-absent, owned-here, has-is, tells-equal}
 use borrow.Author.Needs.{needs}
 use Rattle.links.proofs.owned.Statement.{statement}
 use Rattle.links.proofs.owned.Tie as tie
@@ -46,7 +46,8 @@ returns-4 c =
     let k = c .before .before .before .key-in .ensures .0 in
     let yes = sym (c .before .before .before .before .before .before .candidate .ensures) ∙ not-false _ (c .before .before .before .before .before .if2 .left) in
     let has = has-is (opened (pre .0) (pre .2) _ yes) (c .before .before .before .before .len .ensures .0) _ (c .before .before .has-key .ensures) ∙ not-false _ (c .before .if3 .left) in
-    owned-here _ _ _ _ x _ f yes _ k (is-file _ _ (pre .2) _ yes) has (c .spot .ensures .0)
+    tells-equal _ (c .spot .result) (c .before .before .before .before .before .before .before .before .before .before .before .args .b) (λ h. omega (arith, eqb-true)) (λ h z. omega (arith, eqb-false))
+    ∙ owned-here _ _ _ _ x _ f yes _ k (is-file _ _ (pre .2) _ yes) has (c .spot .ensures .0)
 
 pub owned-spec : {M : Type 1} → statement M
 owned-spec =

@@ -1,5 +1,6 @@
 use mathlib.Core.Path.{sym, _∙_}
 use borrow.Author.Tests.{lt-ltb, le-ltb, not-true, not-false}
+use Rattle.volume.specs.Keys.{reach}
 use Rattle.volume.specs.Answers.{showIn}
 use Rattle.volume.specs.Reads.{candidate-in}
 use Rattle.inspect.proofs.Laws.{wf-opened, opened-len}
@@ -20,7 +21,7 @@ returns-2 c = rw (sym (c .before .before .before .candidate .ensures) ∙ not-fa
 
 returns-3 : tie.Need-returns-3
 unfolding showIn
-returns-3 c = rw (sym (c .before .before .before .before .candidate .ensures) ∙ not-false _ (c .before .before .before .if1 .left), sym (c .before .before .well-formed .ensures) ∙ not-false _ (c .before .if2 .left), le-ltb _ 4160 (c .if3 .taken), showIn)
+returns-3 c = rw (sym (c .before .before .before .before .candidate .ensures) ∙ not-false _ (c .before .before .before .if1 .left), sym (c .before .before .well-formed .ensures) ∙ not-false _ (c .before .if2 .left), le-ltb _ reach (c .if3 .taken), showIn)
 
 len-requires : tie.Need-len-requires
 len-requires c κs = opened-len (wf-opened _ (c .before .before .before .before .before .before .pre) (candidate-in _ _ _ (sym (c .before .before .before .before .candidate .ensures) ∙ not-false _ (c .before .before .before .if1 .left)) .1) (sym (c .before .before .well-formed .ensures) ∙ not-false _ (c .before .if2 .left)))
@@ -30,11 +31,11 @@ name-requires c κs = (wf-opened _ (c .before .before .before .before .before .b
 
 returns-4 : tie.Need-returns-4
 unfolding showIn
-returns-4 c = rw (sym (c .before .before .before .before .before .before .before .candidate .ensures) ∙ not-false _ (c .before .before .before .before .before .before .if1 .left), sym (c .before .before .before .before .before .well-formed .ensures) ∙ not-false _ (c .before .before .before .before .if2 .left), lt-ltb _ 4160 (c .before .before .before .if3 .left), lt-ltb _ _ (rw (c .before .before .len .ensures .0) at (c .before .if4 .taken)), showIn, c .name .ensures .0)
+returns-4 c = rw (sym (c .before .before .before .before .before .before .before .candidate .ensures) ∙ not-false _ (c .before .before .before .before .before .before .if1 .left), sym (c .before .before .before .before .before .well-formed .ensures) ∙ not-false _ (c .before .before .before .before .if2 .left), lt-ltb _ reach (c .before .before .before .if3 .left), lt-ltb _ _ (rw (c .before .before .len .ensures .0) at (c .before .if4 .taken)), showIn, c .name .ensures .0)
 
 returns-5 : tie.Need-returns-5
 unfolding showIn
-returns-5 c = rw (sym (c .before .before .before .before .before .before .candidate .ensures) ∙ not-false _ (c .before .before .before .before .before .if1 .left), sym (c .before .before .before .before .well-formed .ensures) ∙ not-false _ (c .before .before .before .if2 .left), lt-ltb _ 4160 (c .before .before .if3 .left), le-ltb _ _ (rw (c .before .len .ensures .0) at (c .if4 .left)), showIn)
+returns-5 c = rw (sym (c .before .before .before .before .before .before .candidate .ensures) ∙ not-false _ (c .before .before .before .before .before .if1 .left), sym (c .before .before .before .before .well-formed .ensures) ∙ not-false _ (c .before .before .before .if2 .left), lt-ltb _ reach (c .before .before .if3 .left), le-ltb _ _ (rw (c .before .len .ensures .0) at (c .if4 .left)), showIn)
 
 pub show-in-spec : {M : Type 1} → statement M
 show-in-spec =

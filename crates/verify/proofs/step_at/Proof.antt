@@ -1,4 +1,5 @@
 use mathlib.Core.Path.{refl, sym, _∙_}
+use native.Mathlib.Omega.{arith}
 use Rattle.image.specs.View.{pair}
 use Rattle.volume.specs.Files.{owned}
 use Rattle.volume.specs.Steps.{ne-of, eq-of}
@@ -13,7 +14,7 @@ returns c = rw (sym (c .before .owned .ensures) ∙ c .if1 .taken, stepAt)
 
 returns-2 : tie.Need-returns-2
 unfolding stepAt
-returns-2 c = rw (sym (c .before .before .before .before .before .owned .ensures) ∙ c .before .before .before .before .if1 .left, eq-of (c .before .before .before .pair .ensures .0) refl (c .before .before .if2 .taken), stepAt, ← c .before .pair2 .ensures .0) (c .onward .ensures)
+returns-2 c = rw (sym (c .before .before .before .before .before .owned .ensures) ∙ c .before .before .before .before .if1 .left, eq-of {y = c .before .before .before .before .before .before .before .args .«before»} (c .before .before .before .pair .ensures .0) refl (omega (arith, c .before .before .if2 .taken)), stepAt, ← c .before .pair2 .ensures .0) (c .onward .ensures)
 
 returns-3 : tie.Need-returns-3
 unfolding stepAt

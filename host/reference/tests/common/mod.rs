@@ -2,6 +2,7 @@
 #![allow(dead_code)]
 
 pub mod directories;
+pub mod double;
 pub mod low_bits;
 
 use reference::*;

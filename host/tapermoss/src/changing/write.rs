@@ -2,10 +2,10 @@
 
 use super::{Changing, FileArguments};
 use crate::image::some;
+use crate::index;
 use crate::names::{self, shown};
 use crate::problem::Problem;
 use crate::told::{counted, Told};
-use crate::volume;
 use clap::Args;
 use indicatif::ProgressBar;
 use perq::{Refusal, DATA};
@@ -36,7 +36,7 @@ pub struct Arguments {
 }
 
 pub fn run(arguments: &Arguments) -> Result<Told, Problem> {
-    let bytes = some(&arguments.from, DATA * (volume::LAST as usize + 1))?;
+    let bytes = some(&arguments.from, DATA * (index::LAST as usize + 1))?;
     if bytes.is_empty() {
         return Err(Problem::usage(format!("{} has no bytes to write", shown(&arguments.from))));
     }
@@ -59,15 +59,15 @@ fn must_fit(image: &Changing, f: u32, first: u32, blocks: u32) -> Result<(), Pro
     if perq::description(&image.bytes, image.drive, image.s, f).is_err() {
         return Ok(());
     }
-    let has = volume::length(&image.bytes, f);
+    let has = index::length(&image.bytes, f);
     if first > has {
         return Ok(());
     }
     let end = first.saturating_add(blocks);
-    if end > volume::LAST + 1 {
+    if end > index::LAST + 1 {
         return Err(too_far(f, end - 1));
     }
-    let needed = volume::needed(end.max(has)) - volume::needed(has);
+    let needed = index::needed(end.max(has)) - index::needed(has);
     if needed >= summary.free && needed > 0 {
         let told = format!(
             "file {f} needs {} more, and the partition at block {} has {} free, of which one must stay",
@@ -81,10 +81,8 @@ fn must_fit(image: &Changing, f: u32, first: u32, blocks: u32) -> Result<(), Pro
 }
 
 fn too_far(f: u32, r: u32) -> Problem {
-    let told = format!(
-        "file {f} cannot take block {r}: the last that a file can have is {}",
-        volume::LAST
-    );
+    let told =
+        format!("file {f} cannot take block {r}: the last that a file can have is {}", index::LAST);
     Problem::refused(Refusal::Range, &told)
 }
 
@@ -112,7 +110,7 @@ fn write(image: &mut Changing, f: u32, first: u32, bytes: &[u8]) -> Result<(u32,
 /// The refusal of block r, which in a write may also be too far behind the last one.
 fn refused(image: &Changing, f: u32, r: u32, refusal: Refusal) -> Problem {
     match refusal {
-        Refusal::Range if r > volume::LAST => too_far(f, r),
+        Refusal::Range if r > index::LAST => too_far(f, r),
         Refusal::Range => {
             let told =
                 format!("file {f} cannot take block {r}: it is not there, and not the next one");

@@ -4,6 +4,7 @@ mod png;
 mod svg;
 
 use crate::image::{PartitionArguments, Reading};
+use crate::index::Index;
 use crate::keep::{self, Existing, Like};
 use crate::names::{name_bytes, shown};
 use crate::problem::Problem;
@@ -98,7 +99,7 @@ fn picture(image: &[u8], drive: Drive, s: u32) -> Result<Picture, Refusal> {
     survey.malformed.iter().for_each(|&block| set(block, Block::Malformed));
     for (place, &f) in survey.files.iter().enumerate() {
         set(f, Block::File { place, f });
-        let index = volume::index(image, drive, f);
+        let index = Index::of(image, drive, f);
         index.pointers.iter().for_each(|&block| set(block, Block::Pointer { place, f }));
         index.data.iter().for_each(|&block| set(block, Block::Data { place, f }));
     }

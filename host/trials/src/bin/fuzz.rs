@@ -8,6 +8,7 @@ use std::env;
 use std::fs::File;
 use std::os::unix::fs::FileExt;
 use std::time::{Duration, Instant, SystemTime, UNIX_EPOCH};
+use trials::big;
 use trials::both::told;
 use trials::call::{on_library_lent, on_reference, Call, Lent, Name};
 use trials::damage::damage;
@@ -18,13 +19,18 @@ use trials::low_bits;
 use trials::trees::{some_tree, Planted};
 
 const RECORD: usize = 528;
-const MOST_RECORDS: usize = 420;
+/// The records of an image without a big file, and of any.
+const FEW_RECORDS: usize = 420;
+const MOST_RECORDS: usize = 21_000;
+/// The calls on an image, and on one with a big file.
 const CALLS: u32 = 30;
+const FEW_CALLS: u32 = 5;
 
 /// Mostly a sound partition with some damage, at times bytes of no meaning under a good partition block. One in four has
-/// directories, one in three reserved bits in every LDA.
+/// directories, one in 200 a big file, one in three reserved bits in every LDA.
 fn some_image(rng: &mut Rng) -> Planted {
     let mut planted = match rng.below(4) {
+        _ if big::is_due(rng) => some_big_file(rng),
         0 => some_tree(rng),
         _ => some_files(rng),
     };
@@ -43,10 +49,16 @@ fn some_image(rng: &mut Rng) -> Planted {
 
 /// A sound partition without directories; the tree that comes with it is of another one.
 fn some_files(rng: &mut Rng) -> Planted {
-    let most = if rng.below(10) == 0 { MOST_RECORDS as u32 } else { 30 };
+    let most = if rng.below(10) == 0 { FEW_RECORDS as u32 } else { 30 };
     let n = 3 + rng.below(most - 3);
     let place = Place { drive: rng.below(4), n, s: 1, e: n - 1 };
     let image = shuffled(&place, &some_lengths(&place, 5, rng), rng);
+    Planted { tree: random_tree(rng, 1), place, image }
+}
+
+/// The same with a big file.
+fn some_big_file(rng: &mut Rng) -> Planted {
+    let (place, image) = big::some(rng);
     Planted { tree: random_tree(rng, 1), place, image }
 }
 
@@ -61,7 +73,7 @@ struct Room {
 
 impl Room {
     fn new() -> Room {
-        let new = || Guarded::new(RECORD * (MOST_RECORDS + 4));
+        let new = || Guarded::new(RECORD * MOST_RECORDS);
         Room { image: new(), repaired: new(), rule: new(), path: new(), buffer: new() }
     }
 
@@ -83,8 +95,9 @@ impl Room {
     }
 }
 
-/// One image and some calls on it, one after the other; once in a while its length is that of no image.
-fn round(names: &[Name], room: &mut Room, rng: &mut Rng) {
+/// One image and some calls on it, one after the other; once in a while its length is that of no image. Answers how many
+/// calls these were.
+fn round(names: &[Name], room: &mut Room, rng: &mut Rng) -> u64 {
     let Planted { tree, place, mut image } = some_image(rng);
     let mut repaired = image.clone();
     damage(&mut repaired, &place, rng);
@@ -92,11 +105,13 @@ fn round(names: &[Name], room: &mut Room, rng: &mut Rng) {
         0 => rng.below(image.len() as u32) as usize,
         _ => image.len(),
     };
-    for _ in 0..CALLS {
+    let calls = if place.n > 4_160 { FEW_CALLS } else { CALLS };
+    for _ in 0..calls {
         let files = candidates(&image, &place);
         let call = draw::aimed(draw::call(names, &image, &place, &files, rng), &tree, rng);
         room.compare(&call, &mut image[..length], &repaired, rng);
     }
+    u64::from(calls)
 }
 
 fn main() {
@@ -111,17 +126,16 @@ fn main() {
     println!("fuzz: {} calls for {seconds} seconds", names.len());
     let note = File::create("build/fuzz.seed")
         .expect("build/ is there: this runs at the top of the repository");
-    let mut rounds: u64 = 0;
+    let (mut rounds, mut calls): (u64, u64) = (0, 0);
     while start.elapsed() < Duration::from_secs(seconds) {
         let seed = first.wrapping_add(rounds);
         // Written before the round, so that a trap leaves it behind as well.
         note.write_all_at(format!("{seed:20}\n").as_bytes(), 0)
             .expect("build/fuzz.seed is written");
-        round(&names, &mut room, &mut Rng::new(seed));
+        calls += round(&names, &mut room, &mut Rng::new(seed));
         rounds += 1;
     }
     assert!(rounds > 0, "in {seconds} seconds no call is made");
-    let calls = rounds * u64::from(CALLS);
     println!("fuzz: {calls} calls on {rounds} images, all as the reference has them");
     println!("1 passed, 0 failed");
 }

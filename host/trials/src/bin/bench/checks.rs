@@ -1,4 +1,4 @@
-//! Check of the four shapes of partition: beside the reference, beside the plain C check, and beside touching the headers.
+//! Check of the shapes of partition: beside the reference, beside the plain C check, and beside touching the headers.
 
 use crate::measure::least;
 use crate::{DRIVE, SIZES};

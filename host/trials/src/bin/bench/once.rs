@@ -10,12 +10,13 @@ use trials::shapes::Shape;
 
 /// What can be asked for.
 pub const WHATS: &str =
-    "long, short, empty, free, repair, extract, tree, look_up, decode or encode";
+    "one, long, short, empty, free, repair, extract, tree, look_up, decode or encode";
 
 /// Check is made by the library and by the plain C check, each once. Decode and encode go through the first m blocks of
 /// the drive.
 pub fn once(what: &str, m: u32) {
     match what {
+        "one" => check(Shape::One, m),
         "long" => check(Shape::Long, m),
         "short" => check(Shape::Short, m),
         "empty" => check(Shape::Empty, m),

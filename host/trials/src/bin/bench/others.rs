@@ -6,15 +6,17 @@ use perq::raw;
 use reference::sample::scattered;
 use reference::tree_sample::{plant, Line, Names, Node, Stand, Tree};
 use std::hint::black_box;
+use trials::big;
 use trials::shapes::Shape;
 
-/// A partition of 4,999 blocks whose only file, at block 2, has this length.
+/// A partition whose only file, at block 2, has this length.
 pub fn one_file(length: u32) -> Vec<u8> {
-    scattered(DRIVE, 5_000, 1, 4_999, &[length], 1)
+    let e = big::in_use(length) + 100;
+    scattered(DRIVE, e + 1, 1, e, &[length], 1)
 }
 
 pub fn extracts() {
-    for length in [64, 4_160] {
+    for length in [64, 4_000, 32_000] {
         let image = one_file(length);
         let mut buffer = vec![0; 512 * length as usize];
         let mut copy = buffer.clone();
@@ -92,6 +94,6 @@ pub fn repairs() {
         };
         let [a, b] = least([&mut ours, &mut theirs]).map(|time| time / f64::from(m) * 1e9);
         assert!(one == other, "both repair alike");
-        row("repair, long files", &m.to_string(), a, "ns/block", "reference", b);
+        row("repair, files of 4,000", &m.to_string(), a, "ns/block", "reference", b);
     }
 }
