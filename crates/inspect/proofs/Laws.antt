@@ -7,7 +7,7 @@ use Prim.Native.Nat.{ℕ, _+_, _-_, _*_, _/_, _%_, _≤_, _<_}
 use native.Mathlib.Omega.{arith}
 use lib.Dec.{ltb, eqb}
 use lib.ListN.{length}
-use borrow.Author.Tests.{ltb-true, eqb-true, eqb-false}
+use borrow.Author.Tests.{ltb-true, ltb-false, eqb-true, eqb-false}
 use Rattle.base.specs.Tests.{every}
 use Rattle.drive.specs.Address.{pda, ldaBlock, isLda}
 use Rattle.drive.specs.Names.{lda-bits}
@@ -115,13 +115,20 @@ module _ {π : Partition} {l : List ℕ} {f : ℕ} (o : Readable π l f) where
   pub read-holder : (k : ℕ) → present π (view l) f k ≡ true → spot π (view l) f (up k) ≤ π .e
   read-holder k p = read-in (up k) (holder-there k p)
 
-  -- the pointer block over a data block from 64 on: its key u
-  module _ (k : ℕ) (p : present π (view l) f k ≡ true) {u : ℕ} (h : u ≡ up k) where
-    pub over-there : present π (view l) f u ≡ true
-    over-there = subst (λ (x : ℕ). present π (view l) f x ≡ true) (sym h) (holder-there k p)
+  -- the pointer block over data through which k is named, if there is one: its key u
+  module _ (k : ℕ) (p : present π (view l) f k ≡ true) {u : ℕ} (far : 355 < k → u ≡ up k) where
+    pub through-there : 355 < k → present π (view l) f u ≡ true
+    through-there h = subst (λ (x : ℕ). present π (view l) f x ≡ true) (sym (far h)) (holder-there k p)
 
-    pub over-inner : 355 < k → u ≢ home
-    over-inner l z = omega (arith, z, up-data-most k l h)
+    pub through-inner : 355 < k → u ≢ home
+    through-inner h z = omega (arith, z, up-data-most k h (far h))
+
+    pub through-pos : (k ≤ 355 → u ≡ k) → 1 ≤ u
+    through-pos near = go (ltb 355 k) refl
+      where
+        go : (t : Bool) → ltb 355 k ≡ t → 1 ≤ u
+        go true q = read-few u (through-there (ltb-true 355 k q)) .0
+        go false q = omega (arith, near (ltb-false 355 k q), read-few k p .0)
 
   -- below block 4,160 the FIB names that pointer block, and u is read out of it
   pub read-near : {u q : ℕ} (k : ℕ) → present π (view l) f k ≡ true → 355 < k → k ≤ 4451 → u ≡ up k → q ≡ pair (view l) f (slot u) / 256 % 2097152 → q ≡ spot π (view l) f (up k)

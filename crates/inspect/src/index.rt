@@ -191,16 +191,22 @@ pub fn read(img: &[u8], q: usize, k: usize) -> usize
     drive::known_lda(image::pair(img, q, keys::slot(k)))
 }
 
+// The key of the pointer block over data through which k is named, or k where there is none.
+fn through(k: usize) -> usize
+    requires { ⌜ k < 33060 ⌝ }
+    ensures { λ u. ⌜ (355 < k → u ≡ up k) × (k ≤ 355 → u ≡ k) × (u < 356) ⌝ }
+{
+    if 355 < k { keys::up(k) } else { k }
+}
+
 // The block that names key k of f, whose index is good, by at most two entries; of the FIB itself.
 pub fn holder_of(img: &[u8], p: Partition, f: usize, k: usize) -> usize
     requires { ⌜ (Readable p (now img) f) × (present p (view (now img)) f k ≡ true) ⌝ }
     ensures { λ q. ⌜ (q ≡ spot p (view (now (img .entry))) f (up k)) × (q ≤ p .e) ⌝ }
 {
-    if k <= 355 {
-        return holder(img, p, f, k);
-    }
-    let u = keys::up(k);
-    read(img, holder(img, p, f, u), u)
+    let u = through(k);
+    let q = holder(img, p, f, u);
+    if 355 < k { read(img, q, u) } else { q }
 }
 
 // The block of key k of f but the FIB's, whose index is good, by up to three entries.

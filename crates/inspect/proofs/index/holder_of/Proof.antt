@@ -1,39 +1,37 @@
 use mathlib.Core.Path.{ap, _∙_}
 use native.Mathlib.Omega.{arith}
 use Rattle.volume.specs.Files.{spot}
-use Rattle.inspect.proofs.Laws.{read-few, read-holder, read-bits, read-is, holder-there, up-data-most, over-there, over-inner}
+use Rattle.inspect.proofs.Laws.{read-few, read-holder, read-bits, read-is, holder-there, through-there, through-inner, through-pos}
 use Rattle.inspect.proofs.index.holder_of.Statement.{statement}
 use Rattle.inspect.proofs.index.holder_of.Tie as tie
 
+through-requires : tie.Need-through-requires
+through-requires c κs =
+    let h = c .before .pre in read-few (h .0) _ (h .1) .1
+
 holder-requires : tie.Need-holder-requires
 holder-requires c κs =
-    let h = c .before .before .pre in (h .0 .lies, h .0 .here, read-few (h .0) _ (h .1) .0, omega arith)
-
-returns : tie.Need-returns
-returns c =
-    let h = c .before .before .before .pre in read-is (h .0) _ _ (holder-there (h .0) _ (h .1)) (c .holder .ensures .0)
-
-up-requires : tie.Need-up-requires
-up-requires c κs =
-    let h = c .before .before .pre in omega (arith, read-few (h .0) _ (h .1) .1)
-
-holder-requires-2 : tie.Need-holder-requires-2
-holder-requires-2 c κs =
-    let h = c .before .before .before .pre in
-    let u = c .up .ensures .0 in
-    (h .0 .lies, h .0 .here, read-few (h .0) _ (over-there (h .0) _ (h .1) u) .0, omega (arith, up-data-most _ (c .before .if1 .left) u))
+    let h = c .before .before .pre in let t = c .through .ensures in (h .0 .lies, h .0 .here, through-pos (h .0) _ (h .1) (t .0) (t .1), t .2)
 
 read-requires : tie.Need-read-requires
 read-requires c κs =
     let h = c .before .before .before .before .pre in
-    let z = rw (← c .holder2 .ensures .0) at (read-holder (h .0) _ (over-there (h .0) _ (h .1) (c .before .up .ensures .0))) in
-    (omega (arith, h .0 .lies .within, z), omega (arith, c .before .up .ensures .1))
+    let t = c .before .before .through .ensures in
+    let k = c .if1 .taken in
+    let z = rw (← c .before .holder .ensures .0) at (read-holder (h .0) _ (through-there (h .0) _ (h .1) (t .0) k)) in
+    (omega (arith, h .0 .lies .within, z), omega (arith, t .2))
+
+returns : tie.Need-returns
+returns c =
+    let h = c .before .before .before .before .before .pre in
+    let t = c .before .before .before .through .ensures in
+    let k = c .before .if1 .taken in
+    read-is (h .0) _ _ (holder-there (h .0) _ (h .1)) (c .read .ensures ∙ read-bits (h .0) _ (through-there (h .0) _ (h .1) (t .0) k) (through-inner (h .0) _ (h .1) (t .0) k) (c .before .before .holder .ensures .0) ∙ ap (spot _ _ _) (t .0 k))
 
 returns-2 : tie.Need-returns-2
 returns-2 c =
-    let h = c .before .before .before .before .before .pre in
-    let u = c .before .before .up .ensures .0 in
-    read-is (h .0) _ _ (holder-there (h .0) _ (h .1)) (c .read .ensures ∙ read-bits (h .0) _ (over-there (h .0) _ (h .1) u) (over-inner (h .0) _ (h .1) u (c .before .before .before .if1 .left)) (c .before .holder2 .ensures .0) ∙ ap (spot _ _ _) u)
+    let h = c .before .before .before .before .pre in
+    read-is (h .0) _ _ (holder-there (h .0) _ (h .1)) (rw (c .before .before .through .ensures .1 (c .if1 .left)) at (c .before .holder .ensures .0))
 
 pub holder-of-spec : {M : Type 1} → statement M
-holder-of-spec = tie.close (tie.spec holder-requires returns up-requires holder-requires-2 read-requires returns-2)
+holder-of-spec = tie.close (tie.spec through-requires holder-requires read-requires returns returns-2)
