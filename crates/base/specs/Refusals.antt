@@ -1,7 +1,7 @@
 -- Refusals: the number of each, and the block that one names (docs/FORMAT.md, 7.3).
 use Prim.Native.Nat.{ℕ}
 use Rattle.base.specs.declared.Refusal.{Refusal}
-use Rattle.base.specs.declared.Refusal.the-variants.{BadImage, BadPartition, BadBuffer, Malformed, Unsound, NoCandidate, BadBlock, Full, NothingFree, NoAddress, TooDeep}
+use Rattle.base.specs.declared.Refusal.the-variants.{BadImage, BadPartition, BadBuffer, Malformed, Unsound, NoCandidate, BadBlock, Full, NothingFree, NoAddress, TooDeep, BadName}
 
 abbrev pub number : Refusal → ℕ
 number BadImage = 1
@@ -15,6 +15,7 @@ number Full = 8
 number NothingFree = 9
 number NoAddress = 10
 number (TooDeep f) = 11
+number BadName = 12
 
 -- the LBN of a malformed candidate, or of a directory of the tenth level; any other refusal names no block
 abbrev pub culprit : Refusal → ℕ
@@ -29,3 +30,4 @@ culprit Full = 0
 culprit NothingFree = 0
 culprit NoAddress = 0
 culprit (TooDeep f) = f
+culprit BadName = 0

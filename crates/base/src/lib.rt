@@ -16,6 +16,7 @@ pub enum Refusal {
     NothingFree,
     NoAddress,
     TooDeep(usize),
+    BadName,
 }
 
 // The number of a refusal.
@@ -34,6 +35,7 @@ pub fn number(why: Refusal) -> u32
         Refusal::NothingFree => 9,
         Refusal::NoAddress => 10,
         Refusal::TooDeep(_) => 11,
+        Refusal::BadName => 12,
     }
 }
 
@@ -53,5 +55,6 @@ pub fn culprit(why: Refusal) -> usize
         Refusal::NothingFree => 0,
         Refusal::NoAddress => 0,
         Refusal::TooDeep(f) => f,
+        Refusal::BadName => 0,
     }
 }

@@ -5,7 +5,6 @@ use mathlib.Core.List.{List, [], _∷_}
 use Prim.Native.Nat.{ℕ, _+_, _<_, _≤_}
 use native.Mathlib.Omega.{arith}
 use lib.Dec.{leb, ltb, eqb}
-use lib.ListN.{length}
 use borrow.Author.Tests.{leb-true, le-leb, le-ltb, eqb-true}
 use Rattle.base.specs.Tests.{every}
 use Rattle.base.specs.Laws.{every-at}
@@ -18,19 +17,21 @@ use Rattle.volume.specs.Keys.{reach}
 use Rattle.volume.specs.Files.{partitionOf, candidate, len}
 use Rattle.volume.specs.declared.Partition.{Partition}
 use Rattle.volume.specs.Writes as writes
-use Rattle.volume.specs.Calls.{Planned, refuse, through, room, createIn, appendIn, writeIn, create, write, planned}
+use Rattle.volume.specs.Calls.{Planned, refuse, through, room, lentBlock, createIn, appendIn, writeIn, create, write, planned}
+use Rattle.volume.specs.declared.Lent.{Lent}
+use Rattle.volume.specs.declared.Lent.the-variants.{Fine}
 use Rattle.volume.specs.declared.Part.{Part}
 use Rattle.volume.specs.declared.Part.the-variants as part
 use Rattle.volume.specs.declared.Outcome.the-variants.{Done, Refused}
 use Rattle.base.specs.Refusals.{number}
 use Rattle.change.specs.Gate.{gate, Opens, enters, shut, gate-number, goes-through}
 
--- a call whose buffer fits, that asks for something there, and needs so many blocks: none of 1 to 7 applies, and there are fewer free
+-- a call whose buffer is fine, that asks for something there, and needs so many blocks: none of 1 to 7 and 12 applies, and there are fewer free
 -- blocks than that plus one
-pub record Crowded (d : ℕ) (l : List ℕ) (s : ℕ) (fits : Bool) (asks : Partition → Bool) (needs : Partition → ℕ) : Type 0 where
+pub record Crowded (d : ℕ) (l : List ℕ) (s : ℕ) (lent : Lent) (asks : Partition → Bool) (needs : Partition → ℕ) : Type 0 where
   pub e : ℕ
   pub opens : Opens (partitionOf d s e) l
-  pub fit : fits ≡ true
+  pub fine : lent ≡ Fine
   pub asked : asks (partitionOf d s e) ≡ true
   pub few : room (partitionOf d s e) (view l) < needs (partitionOf d s e) + 1
 
@@ -41,30 +42,30 @@ no-full : (y : Refusal) → (number y ≡ 8 → ⊥) → Refused y ≡ Refused F
 no-full y n h = let i : y ≡ Full = cc in n (ap number i)
 
 -- behind the gate, the call comes to `Full` just where it asks for something there and the blocks are too few
-module _ (d : ℕ) (l : List ℕ) (s : ℕ) (fits : Bool) (k : Partition → Planned) (asks : Partition → Bool) (needs : Partition → ℕ) where
+module _ (d : ℕ) (l : List ℕ) (s : ℕ) (lent : Lent) (k : Partition → Planned) (asks : Partition → Bool) (needs : Partition → ℕ) where
   crowded : ((π : Partition) → k π .outcome ≡ Refused Full → (asks π ≡ true) × (room π (view l) < needs π + 1))
-      → through d l s fits k .outcome ≡ Refused Full → Crowded d l s fits asks needs
-  crowded inner h = go (gate d l s fits) refl
+      → through d l s lent k .outcome ≡ Refused Full → Crowded d l s lent asks needs
+  crowded inner h = go (gate d l s lent) refl
     where
-      go : (p : Part) → gate d l s fits ≡ p → Crowded d l s fits asks needs
+      go : (p : Part) → gate d l s lent ≡ p → Crowded d l s lent asks needs
       go (part.Good e) q =
-          let x = enters d l s fits k e q in
+          let x = enters d l s lent k e q in
           let r = inner (partitionOf d s e) (sym (ap (λ (p : Planned). p .outcome) (x .goes)) ∙ h) in
-          record { e = e; opens = x .opens; fit = x .fit; asked = r .0; few = r .1 }
+          record { e = e; opens = x .opens; fine = x .fine; asked = r .0; few = r .1 }
       go (part.Refused y) q =
-          let z : Refused y ≡ Refused Full = sym (ap (λ (p : Planned). p .outcome) (shut d l s fits k y q)) ∙ h in
+          let z : Refused y ≡ Refused Full = sym (ap (λ (p : Planned). p .outcome) (shut d l s lent k y q)) ∙ h in
           let i : y ≡ Full = cc in
-          absurd (omega (arith, gate-number d l s fits y q, ap number i))
+          absurd (gate-number d l s lent y q (ap number i))
 
   full : ((π : Partition) → asks π ≡ true → room π (view l) < needs π + 1 → k π ≡ refuse Full)
-      → Crowded d l s fits asks needs → through d l s fits k ≡ refuse Full
-  full inner c = goes-through d l s fits k (c .e) (c .opens) (c .fit) ∙ inner (partitionOf d s (c .e)) (c .asked) (c .few)
+      → Crowded d l s lent asks needs → through d l s lent k ≡ refuse Full
+  full inner c = goes-through d l s lent k (c .e) (c .opens) (c .fine) ∙ inner (partitionOf d s (c .e)) (c .asked) (c .few)
 
 -- ---- create
 
 module _ (d : ℕ) (l : List ℕ) (s kind : ℕ) where
   abbrev pub CreateCrowded : Type 0
-  CreateCrowded = Crowded d l s true (λ π. true) (λ π. 1)
+  CreateCrowded = Crowded d l s Fine (λ π. true) (λ π. 1)
 
   create-few : (π : Partition) → createIn π (view l) kind .outcome ≡ Refused Full → room π (view l) < 2
   unfolding createIn
@@ -76,11 +77,11 @@ module _ (d : ℕ) (l : List ℕ) (s kind : ℕ) where
 
   pub create-crowded : planned d l s (create kind) .outcome ≡ Refused Full → CreateCrowded
   unfolding planned
-  create-crowded = crowded d l s true _ (λ π. true) (λ π. 1) (λ π h. (refl, create-few π h))
+  create-crowded = crowded d l s Fine _ (λ π. true) (λ π. 1) (λ π h. (refl, create-few π h))
 
   pub create-full : CreateCrowded → planned d l s (create kind) ≡ refuse Full
   unfolding planned createIn
-  create-full = full d l s true _ (λ π. true) (λ π. 1) (λ π a f. rw (createIn, le-leb (room π (view l)) 1 (omega arith)))
+  create-full = full d l s Fine _ (λ π. true) (λ π. 1) (λ π a f. rw (createIn, le-leb (room π (view l)) 1 (omega arith)))
 
 -- ---- write
 
@@ -94,7 +95,7 @@ module _ (d : ℕ) (l : List ℕ) (s f r : ℕ) (block : List ℕ) where
   appendNeeds π = writes.needs π (view l) f r
 
   abbrev pub WriteCrowded : Type 0
-  WriteCrowded = Crowded d l s (eqb (length block) 512) appends appendNeeds
+  WriteCrowded = Crowded d l s (lentBlock block) appends appendNeeds
 
   append-few : (π : Partition) → appendIn π (view l) f r (words block) .outcome ≡ Refused Full → room π (view l) < appendNeeds π + 1
   unfolding appendIn
@@ -119,7 +120,7 @@ module _ (d : ℕ) (l : List ℕ) (s f r : ℕ) (block : List ℕ) where
 
   pub write-crowded : planned d l s (write f r block) .outcome ≡ Refused Full → WriteCrowded
   unfolding planned
-  write-crowded = crowded d l s (eqb (length block) 512) _ appends appendNeeds write-few
+  write-crowded = crowded d l s (lentBlock block) _ appends appendNeeds write-few
 
   write-is-full : (π : Partition) → appends π ≡ true → room π (view l) < appendNeeds π + 1 → writeIn π (view l) f r (words block) ≡ refuse Full
   unfolding writeIn appendIn
@@ -132,4 +133,4 @@ module _ (d : ℕ) (l : List ℕ) (s f r : ℕ) (block : List ℕ) where
 
   pub write-full : WriteCrowded → planned d l s (write f r block) ≡ refuse Full
   unfolding planned
-  write-full = full d l s (eqb (length block) 512) _ appends appendNeeds write-is-full
+  write-full = full d l s (lentBlock block) _ appends appendNeeds write-is-full

@@ -1,5 +1,6 @@
--- The gate of the changing calls: refusals 1 to 5, on the unchanged image, and what lies behind it.
+-- The gate of the changing calls: refusals 1, 2, 3, 12, 4 and 5, on the unchanged image, and what lies behind it.
 use mathlib.Core.Path.{_≡_, refl, sym, ap, _∙_, subst}
+use mathlib.Core.Logic.{_≢_}
 use mathlib.Core.Bool.{Bool, true, false}
 use mathlib.Core.List.{List}
 use Prim.Native.Nat.{ℕ, _/_, _≤_}
@@ -7,7 +8,7 @@ use lib.ListN.{length}
 use native.Mathlib.Omega.{arith}
 use Rattle.base.specs.Tests.{pick}
 use Rattle.base.specs.declared.Refusal.{Refusal}
-use Rattle.base.specs.declared.Refusal.the-variants.{BadImage, BadPartition, BadBuffer, Malformed, Unsound}
+use Rattle.base.specs.declared.Refusal.the-variants.{BadImage, BadPartition, BadBuffer, Malformed, Unsound, BadName}
 use Rattle.base.specs.Refusals.{number}
 use Rattle.image.specs.View.{View}
 use Rattle.image.specs.Image.{view}
@@ -18,6 +19,8 @@ use Rattle.volume.specs.Calls.{Planned, refuse, through}
 use Rattle.volume.specs.Reads.{Lies, lies}
 use Rattle.volume.specs.declared.Found.{Found}
 use Rattle.volume.specs.declared.Found.the-variants.{At, Nothing}
+use Rattle.volume.specs.declared.Lent.{Lent}
+use Rattle.volume.specs.declared.Lent.the-variants.{Fine, WrongLength, WrongName}
 use Rattle.volume.specs.declared.Answer.{Answer}
 use Rattle.volume.specs.declared.Outcome.the-variants.{Done, Refused}
 use Rattle.volume.specs.declared.Part.{Part}
@@ -28,15 +31,24 @@ abbrev pub whenClean : Partition → View → Found → Part
 whenClean π v (At f) = part.Refused (Malformed f)
 whenClean π v Nothing = pick (sound π v) (part.Good (π .e)) (part.Refused Unsound)
 
--- 1 and 2, and then 3 where the buffer does not fit
-abbrev pub whenGood : ℕ → List ℕ → ℕ → Bool → Part → Part
-whenGood d l s fits (part.Good e) =
-    pick fits (whenClean (partitionOf d s e) (view l) (lowestMalformed (partitionOf d s e) (view l))) (part.Refused BadBuffer)
-whenGood d l s fits (part.Refused y) = part.Refused y
+-- 3 and 12, and then 4 and 5
+abbrev pub whenLent : Partition → View → Lent → Part
+whenLent π v Fine = whenClean π v (lowestMalformed π v)
+whenLent π v WrongLength = part.Refused BadBuffer
+whenLent π v WrongName = part.Refused BadName
 
--- the end of the sound partition at s, or the first of 1 to 5 that applies
-unfoldable pub gate : ℕ → List ℕ → ℕ → Bool → Part
-gate d l s fits = whenGood d l s fits (partition d l s)
+-- 1 and 2, and then the rest
+abbrev pub whenGood : ℕ → List ℕ → ℕ → Lent → Part → Part
+whenGood d l s lent (part.Good e) = whenLent (partitionOf d s e) (view l) lent
+whenGood d l s lent (part.Refused y) = part.Refused y
+
+-- the end of the sound partition at s, or the first refusal that applies
+unfoldable pub gate : ℕ → List ℕ → ℕ → Lent → Part
+gate d l s lent = whenGood d l s lent (partition d l s)
+
+-- what a gate for a lent buffer came to
+pub gate-at : (d : ℕ) (l : List ℕ) (s : ℕ) {x y : Lent} {r p : Part} → r ≡ gate d l s x → x ≡ y → r ≡ p → gate d l s y ≡ p
+gate-at d l s h q k = rw (← q) (sym h ∙ k)
 
 -- the answer of a call that is refused, and of one that is done, with the value a after n stores
 abbrev pub refusal : Refusal → Answer
@@ -53,10 +65,10 @@ pub record Opens (π : Partition) (l : List ℕ) : Type 0 where
   pub sound : sound π (view l) ≡ true
 
 -- a call goes through an open gate, and is refused at a shut one
-pub record Enters (d : ℕ) (l : List ℕ) (s : ℕ) (fits : Bool) (k : Partition → Planned) (e : ℕ) : Type 0 where
+pub record Enters (d : ℕ) (l : List ℕ) (s : ℕ) (lent : Lent) (k : Partition → Planned) (e : ℕ) : Type 0 where
   pub opens : Opens (partitionOf d s e) l
-  pub fit : fits ≡ true
-  pub goes : through d l s fits k ≡ k (partitionOf d s e)
+  pub fine : lent ≡ Fine
+  pub goes : through d l s lent k ≡ k (partitionOf d s e)
 
 -- a partition is refused by 1 or 2
 part-number : (d : ℕ) (l : List ℕ) (s : ℕ) (y : Refusal) → partition d l s ≡ part.Refused y → number y ≤ 2
@@ -68,58 +80,60 @@ part-number d l s y h = go (imageGood d (length l)) refl (partGood d (length l /
     go true p false q = let z : part.Refused BadPartition ≡ part.Refused y = sym (rw (p, q, partition)) ∙ h in let i : BadPartition ≡ y = cc in rw (← i) (omega arith)
     go false p u q = let z : part.Refused BadImage ≡ part.Refused y = sym (rw (p, partition)) ∙ h in let i : BadImage ≡ y = cc in rw (← i) (omega arith)
 
--- the ways through the gate: shut by 1 to 5, with every call's refusal, or open
-data Way (d : ℕ) (l : List ℕ) (s : ℕ) (fits : Bool) : Part → Type 0 where
-  shut-by : (y : Refusal) → number y ≤ 5 → ((k : Partition → Planned) → through d l s fits k ≡ refuse y) → Way d l s fits (part.Refused y)
-  open-to : (e : ℕ) → Opens (partitionOf d s e) l → fits ≡ true → Way d l s fits (part.Good e)
+-- the ways through the gate: shut, with every call's refusal, which is never 8; or open
+data Way (d : ℕ) (l : List ℕ) (s : ℕ) (lent : Lent) : Part → Type 0 where
+  shut-by : (y : Refusal) → number y ≢ 8 → ((k : Partition → Planned) → through d l s lent k ≡ refuse y) → Way d l s lent (part.Refused y)
+  open-to : (e : ℕ) → Opens (partitionOf d s e) l → lent ≡ Fine → Way d l s lent (part.Good e)
 
-way : (d : ℕ) (l : List ℕ) (s : ℕ) (fits : Bool) → Way d l s fits (gate d l s fits)
+way : (d : ℕ) (l : List ℕ) (s : ℕ) (lent : Lent) → Way d l s lent (gate d l s lent)
 unfolding gate through
-way d l s fits = go (partition d l s) refl fits refl
+way d l s lent = go (partition d l s) refl lent refl
   where
-    by : {a : Part} → Way d l s fits a → gate d l s fits ≡ a → Way d l s fits (gate d l s fits)
-    by w g = subst (Way d l s fits) (sym g) w
+    by : {a : Part} → Way d l s lent a → gate d l s lent ≡ a → Way d l s lent (gate d l s lent)
+    by w g = subst (Way d l s lent) (sym g) w
 
-    inner : (x : ℕ) → partition d l s ≡ part.Good x → fits ≡ true
-        → (f : Found) → lowestMalformed (partitionOf d s x) (view l) ≡ f → (b : Bool) → sound (partitionOf d s x) (view l) ≡ b → Way d l s fits (gate d l s fits)
-    inner x p q (At y) r b z = by (shut-by (Malformed y) (omega arith) (λ k. rw (p, through, q, r))) (rw (p, gate, q, r))
-    inner x p q Nothing r false z = by (shut-by Unsound (omega arith) (λ k. rw (p, through, q, r, z))) (rw (p, gate, q, r, z))
+    inner : (x : ℕ) → partition d l s ≡ part.Good x → lent ≡ Fine
+        → (f : Found) → lowestMalformed (partitionOf d s x) (view l) ≡ f → (b : Bool) → sound (partitionOf d s x) (view l) ≡ b → Way d l s lent (gate d l s lent)
+    inner x p q (At y) r b z = by (shut-by (Malformed y) (λ h. omega arith) (λ k. rw (p, through, q, r))) (rw (p, gate, q, r))
+    inner x p q Nothing r false z = by (shut-by Unsound (λ h. omega arith) (λ k. rw (p, through, q, r, z))) (rw (p, gate, q, r, z))
     inner x p q Nothing r true z = by (open-to x (record { good = p; lies = lies d l s x p; clean = r; sound = z }) q) (rw (p, gate, q, r, z))
 
-    go : (p : Part) → partition d l s ≡ p → (u : Bool) → fits ≡ u → Way d l s fits (gate d l s fits)
-    go (part.Refused n) p u q = by (shut-by n (omega (arith, part-number d l s n p)) (λ k. rw (p, through))) (rw (p, gate))
-    go (part.Good x) p false q = by (shut-by BadBuffer (omega arith) (λ k. rw (p, through, q))) (rw (p, gate, q))
-    go (part.Good x) p true q = inner x p q (lowestMalformed (partitionOf d s x) (view l)) refl (sound (partitionOf d s x) (view l)) refl
+    go : (p : Part) → partition d l s ≡ p → (u : Lent) → lent ≡ u → Way d l s lent (gate d l s lent)
+    go (part.Refused n) p u q = by (shut-by n (λ h. omega (arith, part-number d l s n p)) (λ k. rw (p, through))) (rw (p, gate))
+    go (part.Good x) p Fine q = inner x p q (lowestMalformed (partitionOf d s x) (view l)) refl (sound (partitionOf d s x) (view l)) refl
+    go (part.Good x) p WrongLength q = by (shut-by BadBuffer (λ h. omega arith) (λ k. rw (p, through, q))) (rw (p, gate, q))
+    go (part.Good x) p WrongName q = by (shut-by BadName (λ h. omega arith) (λ k. rw (p, through, q))) (rw (p, gate, q))
 
 unequal : (y : Refusal) (e : ℕ) {A : Type 0} → part.Refused y ≡ part.Good e → A
 unequal y e q = let z : _≡_ {A = ℕ} 0 1 = cc in absurd (omega arith)
 
-module _ (d : ℕ) (l : List ℕ) (s : ℕ) (fits : Bool) where
-  pub gate-opens : (e : ℕ) → gate d l s fits ≡ part.Good e → (Opens (partitionOf d s e) l) × (fits ≡ true)
-  gate-opens e h = go (way d l s fits) h
+module _ (d : ℕ) (l : List ℕ) (s : ℕ) (lent : Lent) where
+  pub gate-opens : (e : ℕ) → gate d l s lent ≡ part.Good e → (Opens (partitionOf d s e) l) × (lent ≡ Fine)
+  gate-opens e h = go (way d l s lent) h
     where
-      go : {p : Part} → Way d l s fits p → p ≡ part.Good e → (Opens (partitionOf d s e) l) × (fits ≡ true)
+      go : {p : Part} → Way d l s lent p → p ≡ part.Good e → (Opens (partitionOf d s e) l) × (lent ≡ Fine)
       go (shut-by y n t) q = unequal y e q
       go (open-to x o f) q = let i : x ≡ e = cc in (subst (λ (z : ℕ). Opens (partitionOf d s z) l) i o, f)
 
-  pub gate-number : (y : Refusal) → gate d l s fits ≡ part.Refused y → number y ≤ 5
-  gate-number y h = go (way d l s fits) h
+  -- the gate is never shut by 8
+  pub gate-number : (y : Refusal) → gate d l s lent ≡ part.Refused y → number y ≢ 8
+  gate-number y h = go (way d l s lent) h
     where
-      go : {p : Part} → Way d l s fits p → p ≡ part.Refused y → number y ≤ 5
-      go (shut-by n m t) q = let i : n ≡ y = cc in subst (λ (z : Refusal). number z ≤ 5) i m
+      go : {p : Part} → Way d l s lent p → p ≡ part.Refused y → number y ≢ 8
+      go (shut-by n m t) q = let i : n ≡ y = cc in subst (λ (z : Refusal). number z ≢ 8) i m
       go (open-to x o f) q = unequal y x (sym q)
 
   module _ (k : Partition → Planned) where
-    pub goes-through : (e : ℕ) → Opens (partitionOf d s e) l → fits ≡ true → through d l s fits k ≡ k (partitionOf d s e)
+    pub goes-through : (e : ℕ) → Opens (partitionOf d s e) l → lent ≡ Fine → through d l s lent k ≡ k (partitionOf d s e)
     unfolding through
     goes-through e o q = rw (o .good, through, q, o .clean, o .sound)
 
-    pub enters : (e : ℕ) → gate d l s fits ≡ part.Good e → Enters d l s fits k e
-    enters e h = let o = gate-opens e h in record { opens = o .0; fit = o .1; goes = goes-through e (o .0) (o .1) }
+    pub enters : (e : ℕ) → gate d l s lent ≡ part.Good e → Enters d l s lent k e
+    enters e h = let o = gate-opens e h in record { opens = o .0; fine = o .1; goes = goes-through e (o .0) (o .1) }
 
-    pub shut : (y : Refusal) → gate d l s fits ≡ part.Refused y → through d l s fits k ≡ refuse y
-    shut y h = go (way d l s fits) h
+    pub shut : (y : Refusal) → gate d l s lent ≡ part.Refused y → through d l s lent k ≡ refuse y
+    shut y h = go (way d l s lent) h
       where
-        go : {p : Part} → Way d l s fits p → p ≡ part.Refused y → through d l s fits k ≡ refuse y
+        go : {p : Part} → Way d l s lent p → p ≡ part.Refused y → through d l s lent k ≡ refuse y
         go (shut-by n m t) q = let i : n ≡ y = cc in t k ∙ ap refuse i
         go (open-to x o f) q = unequal y x (sym q)

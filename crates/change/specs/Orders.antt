@@ -20,11 +20,13 @@ use Rattle.volume.specs.Files.{partitionOf, candidate, len, end, spot, least, s
 use Rattle.volume.specs.declared.Partition.{Partition}
 use Rattle.volume.specs.Plans.{st, stores, newFirst, pibLess, gone, topGone, pibMore, topGoneStores, lastGoneStores, destroyed, freeAt, freeTail, takenStores, createPlan, describePlan, destroyPlan, repaired, repairPlan}
 use Rattle.volume.specs.Writes.{needs, writePlan, replacePlan}
-use Rattle.volume.specs.Calls.{Planned, refuse, finish, unmarred, through, room, Call, create, write, describe, destroy, repair, createIn, appendIn, writeIn, describeIn, destroyIn, repairIn, planned}
+use Rattle.volume.specs.Calls.{Planned, refuse, finish, lentBlock, lentText, unmarred, through, room, Call, create, write, describe, destroy, repair, createIn, appendIn, writeIn, describeIn, destroyIn, repairIn, planned}
 use Rattle.volume.specs.Answers.{lowestMalformed}
 use Rattle.volume.specs.Reads.{in-part}
 use Rattle.volume.specs.declared.Found.{Found}
 use Rattle.volume.specs.declared.Found.the-variants.{At, Nothing}
+use Rattle.volume.specs.declared.Lent.{Lent}
+use Rattle.volume.specs.declared.Lent.the-variants.{Fine}
 use Rattle.volume.specs.declared.Part.{Part}
 use Rattle.volume.specs.declared.Part.the-variants as part
 use Rattle.growth.specs.Promise.{Writing, write-few, write-once}
@@ -120,12 +122,12 @@ module _ (π : Partition) (v : View) (ok : sound π v ≡ true) where
 -- ---- the calls
 
 module _ (d : ℕ) (l : List ℕ) (s : ℕ) where
-  through-orderly : (fits : Bool) (k : Partition → Planned) → ((e : ℕ) → Opens (partitionOf d s e) l → Orderly (k (partitionOf d s e) .list)) → Orderly (through d l s fits k .list)
-  through-orderly fits k inner = go (gate d l s fits) refl
+  through-orderly : (lent : Lent) (k : Partition → Planned) → ((e : ℕ) → Opens (partitionOf d s e) l → Orderly (k (partitionOf d s e) .list)) → Orderly (through d l s lent k .list)
+  through-orderly lent k inner = go (gate d l s lent) refl
     where
-      go : (p : Part) → gate d l s fits ≡ p → Orderly (through d l s fits k .list)
-      go (part.Good e) q = let x = enters d l s fits k e q in rw (x .goes) (inner e (x .opens))
-      go (part.Refused y) q = rw (shut d l s fits k y q) no-store
+      go : (p : Part) → gate d l s lent ≡ p → Orderly (through d l s lent k .list)
+      go (part.Good e) q = let x = enters d l s lent k e q in rw (x .goes) (inner e (x .opens))
+      go (part.Refused y) q = rw (shut d l s lent k y q) no-store
 
   module _ (e : ℕ) (o : Opens (partitionOf d s e) l) where
     create-in : (kind : ℕ) → Orderly (createIn (partitionOf d s e) (view l) kind .list)
@@ -180,10 +182,10 @@ module _ (d : ℕ) (l : List ℕ) (s : ℕ) where
   -- every call but repair, on every image
   pub orderly : (call : Call) → call ≢ repair → Orderly (planned d l s call .list)
   unfolding planned
-  orderly (create kind) n = through-orderly true _ (λ e o. create-in e o kind)
-  orderly (write f r block) n = through-orderly (eqb (length block) 512) _ (λ e o. write-in e o f r (words block))
-  orderly (describe f text) n = through-orderly (eqb (length text) 104) _ (λ e o. describe-in e o f (words text))
-  orderly (destroy f) n = through-orderly true _ (λ e o. destroy-in e o f)
+  orderly (create kind) n = through-orderly Fine _ (λ e o. create-in e o kind)
+  orderly (write f r block) n = through-orderly (lentBlock block) _ (λ e o. write-in e o f r (words block))
+  orderly (describe f text) n = through-orderly (lentText text) _ (λ e o. describe-in e o f (words text))
+  orderly (destroy f) n = through-orderly Fine _ (λ e o. destroy-in e o f)
   orderly repair n = absurd (n refl)
 
 -- ---- repair, and so every call, makes at most one store in a block

@@ -6,10 +6,13 @@ ghost use lib.ListN.{length};
 ghost use Rattle.image.specs.Image.{view};
 ghost use Rattle.image.specs.Saves.{words};
 ghost use Rattle.volume.specs.Calls.{createIn, describeIn, Answered, planned, create, describe};
-ghost use Rattle.change.specs.Gate.{gate, Opens, refusal, completion};
+ghost use Rattle.volume.specs.Answers.{lowestMalformed};
+ghost use Rattle.volume.specs.Reads.{Lies};
+ghost use Rattle.change.specs.Gate.{whenClean, gate, Opens, refusal, completion};
 use base::Refusal;
 use volume::Answer;
 use volume::Found;
+use volume::Lent;
 use volume::Outcome;
 use volume::Part;
 use volume::Partition;
@@ -36,25 +39,33 @@ pub fn done(a: usize, n: usize) -> Answer
     }
 }
 
-// Refusals 1 to 5, in that order: the end of the sound partition at s, or the first that applies. 3 is given where the call's buffer
-// does not fit.
-pub fn enter(img: &[u8], drive: usize, s: usize, fits: bool) -> Part
-    ensures { λ r. ⌜ r ≡ gate drive (now (img .entry)) s fits ⌝ }
+// Refusals 4 and 5: the end of the partition, if it is sound.
+fn sound_end(img: &[u8], p: Partition) -> Part
+    requires { ⌜ Lies p (now img) ⌝ }
+    ensures { λ r. ⌜ r ≡ whenClean p (view (now (img .entry))) (lowestMalformed p (view (now (img .entry)))) ⌝ }
+{
+    if verify::is_sound(img, p) {
+        return Part::Good(p.e);
+    }
+    let x = inspect::lowest_malformed(img, p);
+    match x {
+        Found::At(f) => Part::Refused(Refusal::Malformed(f)),
+        Found::Nothing => Part::Refused(Refusal::Unsound),
+    }
+}
+
+// Refusals 1, 2, 3, 12, 4 and 5, in that order: the end of the sound partition at s, or the first that applies.
+pub fn enter(img: &[u8], drive: usize, s: usize, lent: Lent) -> Part
+    ensures { λ r. ⌜ r ≡ gate drive (now (img .entry)) s lent ⌝ }
 {
     let q = inspect::partition(img, drive, s);
     match q {
         Part::Refused(why) => Part::Refused(why),
         Part::Good(e) => {
-            if !fits {
-                return Part::Refused(Refusal::BadBuffer);
-            }
-            if verify::is_sound(img, Partition { drive, s, e }) {
-                return Part::Good(e);
-            }
-            let x = inspect::lowest_malformed(img, Partition { drive, s, e });
-            match x {
-                Found::At(f) => Part::Refused(Refusal::Malformed(f)),
-                Found::Nothing => Part::Refused(Refusal::Unsound),
+            match lent {
+                Lent::Fine => sound_end(img, Partition { drive, s, e }),
+                Lent::WrongLength => Part::Refused(Refusal::BadBuffer),
+                Lent::WrongName => Part::Refused(Refusal::BadName),
             }
         }
     }
@@ -103,7 +114,7 @@ pub fn describe(
 ) -> Answer
     ensures { λ a. ⌜ Answered limit (planned drive (now (img .entry)) s (describe f (now (text .entry)))) (now (img .entry)) (now (img .exit)) a ⌝ }
 {
-    let g = enter(img, drive, s, text.len() == 104);
+    let g = enter(img, drive, s, names::lent(text));
     match g {
         Part::Good(e) => describe_open(img, Partition { drive, s, e }, f, text, limit),
         Part::Refused(why) => refused(why),
@@ -115,7 +126,7 @@ pub fn create(img: &mut [u8], drive: usize, s: usize, kind: u16, limit: usize) -
     ensures { λ a. ⌜ Answered limit (planned drive (now (img .entry)) s (create kind)) (now (img .entry)) (now (img .exit)) a ⌝ }
 {
     let word = wide(kind);
-    let g = enter(img, drive, s, true);
+    let g = enter(img, drive, s, Lent::Fine);
     match g {
         Part::Good(e) => create_open(img, Partition { drive, s, e }, word, limit),
         Part::Refused(why) => refused(why),

@@ -6,9 +6,8 @@ use mathlib.Core.List.{List, [], _∷_}
 use mathlib.Core.Bool.{Bool, true, false, true≢false}
 use Prim.Native.Nat.{ℕ}
 use native.Mathlib.Omega.{arith}
-use lib.Dec.{eqb}
 use lib.ListN.{length}
-use borrow.Author.Tests.{eqb-true, ne-eqb}
+use borrow.Author.Tests.{ne-eqb}
 use Rattle.base.specs.Tests.{pick}
 use Rattle.image.specs.View.{View}
 use Rattle.image.specs.Saves.{words}
@@ -18,9 +17,12 @@ use Rattle.volume.specs.declared.Partition.{Partition}
 use Rattle.volume.specs.Frame.{Clean, of-clean}
 use Rattle.volume.specs.Plans.{repairPlan}
 use Rattle.frame.specs.Sound.{sound-clean}
-use Rattle.base.specs.declared.Refusal.the-variants.{BadBuffer, Unsound, NothingFree}
+use Rattle.base.specs.declared.Refusal.the-variants.{BadBuffer, Unsound, NothingFree, BadName}
 use Rattle.volume.specs.Answers.{partition, lowestMalformed, checked, checkIn, checkClean, tallied, inPartition}
-use Rattle.volume.specs.Calls.{Call, create, write, describe, destroy, repair, Planned, refuse, finish, planned, through, unmarred, repairIn, createIn, writeIn, describeIn, destroyIn}
+use Rattle.volume.specs.Calls.{Call, create, write, describe, destroy, repair, Planned, refuse, finish, planned, lending, lentBlock, lentText, through, unmarred, repairIn, createIn, writeIn, describeIn, destroyIn}
+use Rattle.volume.specs.Reads.{fine-block, fine-text}
+use Rattle.volume.specs.declared.Lent.{Lent}
+use Rattle.volume.specs.declared.Lent.the-variants.{Fine, WrongLength, WrongName}
 use Rattle.volume.specs.declared.Found.{Found}
 use Rattle.volume.specs.declared.Found.the-variants.{At, Nothing}
 use Rattle.volume.specs.declared.Part.{Part}
@@ -70,19 +72,20 @@ module _ {π : Partition} {l : List ℕ} (h : Held π l) where
   -- ---- what a call comes to
 
   -- in a sound partition there is no refusal 1, 2, 4 or 5
-  through-is : sound π (view l) ≡ true → (fits : Bool) (k : Partition → Planned) → through π.drive l π.s fits k ≡ pick fits (k π) (refuse BadBuffer)
+  through-is : sound π (view l) ≡ true → (lent : Lent) (k : Partition → Planned) → through π.drive l π.s lent k ≡ lending lent (k π)
   unfolding through
-  through-is ok fits k =
-      ap (λ (x : Part). inPartition refuse x (λ e. let ρ = partitionOf π.drive π.s e in pick fits (unmarred (lowestMalformed ρ (view l)) (pick (sound ρ (view l)) (k ρ) (refuse Unsound))) (refuse BadBuffer))) (h .good)
-      ∙ ap₂ (λ (m : Found) (t : Bool). pick fits (unmarred m (pick t (k π) (refuse Unsound))) (refuse BadBuffer)) (of-clean π (view l) (sound-clean π (view l) ok)) ok
+  through-is ok lent k =
+      ap (λ (x : Part). inPartition refuse x (λ e. let ρ = partitionOf π.drive π.s e in lending lent (unmarred (lowestMalformed ρ (view l)) (pick (sound ρ (view l)) (k ρ) (refuse Unsound))))) (h .good)
+      ∙ ap₂ (λ (m : Found) (t : Bool). lending lent (unmarred m (pick t (k π) (refuse Unsound)))) (of-clean π (view l) (sound-clean π (view l) ok)) ok
 
-  through-settled : sound π (view l) ≡ true → {f : ℕ} {E : View → Type 0} (fits : Bool) (k : Partition → Planned) → (fits ≡ true → Settled π (view l) f E (k π))
-      → Settled π (view l) f E (through π.drive l π.s fits k)
-  through-settled ok {f} {E} fits k q = subst (Settled π (view l) f E) (sym (through-is ok fits k)) (go fits q)
+  through-settled : sound π (view l) ≡ true → {f : ℕ} {E : View → Type 0} (lent : Lent) (k : Partition → Planned) → (lent ≡ Fine → Settled π (view l) f E (k π))
+      → Settled π (view l) f E (through π.drive l π.s lent k)
+  through-settled ok {f} {E} lent k q = subst (Settled π (view l) f E) (sym (through-is ok lent k)) (go lent q)
     where
-      go : (t : Bool) → (t ≡ true → Settled π (view l) f E (k π)) → Settled π (view l) f E (pick t (k π) (refuse BadBuffer))
-      go true q = q refl
-      go false q = refused BadBuffer
+      go : (x : Lent) → (x ≡ Fine → Settled π (view l) f E (k π)) → Settled π (view l) f E (lending x (k π))
+      go Fine q = q refl
+      go WrongLength q = refused BadBuffer
+      go WrongName q = refused BadName
 
   -- the block that a call names or creates; repair names none, and block 0 is no file
   abbrev pub block : Call → ℕ
@@ -101,10 +104,10 @@ module _ {π : Partition} {l : List ℕ} (h : Held π l) where
   -- every call
   pub settled : sound π (view l) ≡ true → (c : Call) → Proper c → Settled π (view l) (block c) (Effect π c (view l)) (planned π.drive l π.s c)
   unfolding planned
-  settled ok (create kind) k = through-settled ok true (λ ρ. createIn ρ (view l) kind) (λ _. create-settled π (view l) (placed h) ok kind k)
-  settled ok (write f r bytes) k = through-settled ok (eqb (length bytes) 512) (λ ρ. writeIn ρ (view l) f r (words bytes)) (λ q. write-settled π (view l) (placed h) ok f r (words bytes) (words-of 256 bytes k (eqb-true _ _ q)))
-  settled ok (describe f text) k = through-settled ok (eqb (length text) 104) (λ ρ. describeIn ρ (view l) f (words text)) (λ q. describe-settled π (view l) (placed h) ok f (words text) (words-of 52 text k (eqb-true _ _ q)))
-  settled ok (destroy f) k = through-settled ok true (λ ρ. destroyIn ρ (view l) f) (λ _. destroy-settled π (view l) (placed h) ok f)
+  settled ok (create kind) k = through-settled ok Fine (λ ρ. createIn ρ (view l) kind) (λ _. create-settled π (view l) (placed h) ok kind k)
+  settled ok (write f r bytes) k = through-settled ok (lentBlock bytes) (λ ρ. writeIn ρ (view l) f r (words bytes)) (λ q. write-settled π (view l) (placed h) ok f r (words bytes) (words-of 256 bytes k (fine-block bytes q)))
+  settled ok (describe f text) k = through-settled ok (lentText text) (λ ρ. describeIn ρ (view l) f (words text)) (λ q. describe-settled π (view l) (placed h) ok f (words text) (words-of 52 text k (fine-text text q .0)))
+  settled ok (destroy f) k = through-settled ok Fine (λ ρ. destroyIn ρ (view l) f) (λ _. destroy-settled π (view l) (placed h) ok f)
   settled ok repair k = subst (Settled π (view l) 0 (SameFiles π (view l))) (sym (repair-through (sound-clean π (view l) ok))) (repair-settled π (view l) (placed h) ok)
 
   -- repair, where no candidate is malformed and a block is not owned

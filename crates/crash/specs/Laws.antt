@@ -22,11 +22,13 @@ use Rattle.volume.specs.Writes.{needs}
 use Rattle.frame.specs.Sound.{sound-clean, spare-block}
 use lib.Seq.{take-length}
 use Rattle.base.specs.declared.Refusal.{Refusal}
-use Rattle.base.specs.declared.Refusal.the-variants.{BadBuffer, Unsound, NothingFree, Full, NoCandidate, BadBlock, Malformed}
+use Rattle.base.specs.declared.Refusal.the-variants.{BadBuffer, Unsound, NothingFree, Full, NoCandidate, BadBlock, Malformed, BadName}
 use Rattle.volume.specs.Words.{numberFreeAt}
 use Rattle.volume.specs.Keys.{reach}
 use Rattle.volume.specs.Answers.{endOf, partition, lowestMalformed, checked, checkIn, checkClean, tallied, inPartition}
-use Rattle.volume.specs.Calls.{Call, create, write, describe, destroy, repair, Planned, refuse, finish, planned, through, unmarred, createIn, appendIn, writeIn, describeIn, destroyIn, repairIn, room}
+use Rattle.volume.specs.Calls.{Call, create, write, describe, destroy, repair, Planned, refuse, finish, planned, lending, lentBlock, lentText, through, unmarred, createIn, appendIn, writeIn, describeIn, destroyIn, repairIn, room}
+use Rattle.volume.specs.declared.Lent.{Lent}
+use Rattle.volume.specs.declared.Lent.the-variants.{Fine, WrongLength, WrongName}
 use Rattle.volume.specs.declared.Found.{Found}
 use Rattle.volume.specs.declared.Found.the-variants.{At, Nothing}
 use Rattle.volume.specs.declared.Part.{Part}
@@ -77,19 +79,24 @@ part-comes : (x : Part) (k : ℕ → Planned) → ((e : ℕ) → Comes (k e)) �
 part-comes (part.Good e) k h = h e
 part-comes (part.Refused y) k h = refuses y
 
-through-comes : (d : ℕ) (l : List ℕ) (s : ℕ) (fits : Bool) (k : Partition → Planned) → ((π : Partition) → Comes (k π)) → Comes (through d l s fits k)
+lending-comes : (x : Lent) (k : Planned) → Comes k → Comes (lending x k)
+lending-comes Fine k h = h
+lending-comes WrongLength k h = refuses BadBuffer
+lending-comes WrongName k h = refuses BadName
+
+through-comes : (d : ℕ) (l : List ℕ) (s : ℕ) (lent : Lent) (k : Partition → Planned) → ((π : Partition) → Comes (k π)) → Comes (through d l s lent k)
 unfolding through
-through-comes d l s fits k h = part-comes (partition d l s) _ (λ e. either fits
-    (unmarred-comes (lowestMalformed (partitionOf d s e) (view l)) _ (either (sound (partitionOf d s e) (view l)) (h (partitionOf d s e)) (refuses Unsound))) (refuses BadBuffer))
+through-comes d l s lent k h = part-comes (partition d l s) _ (λ e. lending-comes lent _
+    (unmarred-comes (lowestMalformed (partitionOf d s e) (view l)) _ (either (sound (partitionOf d s e) (view l)) (h (partitionOf d s e)) (refuses Unsound))))
 
 comes : (d s : ℕ) (l : List ℕ) (c : Call) → Comes (planned d l s c)
 unfolding planned createIn appendIn writeIn describeIn destroyIn repairIn
-comes d s l (create kind) = through-comes d l s true _ (λ π. either (leb (room π (view l)) 1) (refuses Full) (does _ _))
-comes d s l (write f r block) = through-comes d l s (eqb (length block) 512) _ (λ π. either (candidate π (view l) f)
+comes d s l (create kind) = through-comes d l s Fine _ (λ π. either (leb (room π (view l)) 1) (refuses Full) (does _ _))
+comes d s l (write f r block) = through-comes d l s (lentBlock block) _ (λ π. either (candidate π (view l) f)
     (either (ltb r reach) (either (ltb r (len (view l) f)) (does _ _) (either (eqb r (len (view l) f)) (either (leb (room π (view l)) (needs π (view l) f r)) (refuses Full) (does _ _)) (refuses BadBlock))) (refuses BadBlock))
     (refuses NoCandidate))
-comes d s l (describe f text) = through-comes d l s (eqb (length text) 104) _ (λ π. either (candidate π (view l) f) (does _ _) (refuses NoCandidate))
-comes d s l (destroy f) = through-comes d l s true _ (λ π. either (candidate π (view l) f) (does _ _) (refuses NoCandidate))
+comes d s l (describe f text) = through-comes d l s (lentText text) _ (λ π. either (candidate π (view l) f) (does _ _) (refuses NoCandidate))
+comes d s l (destroy f) = through-comes d l s Fine _ (λ π. either (candidate π (view l) f) (does _ _) (refuses NoCandidate))
 comes d s l repair = part-comes (partition d l s) _ (λ e. unmarred-comes (lowestMalformed (partitionOf d s e) (view l)) _
     (either (eqb (length (unowned (partitionOf d s e) (view l))) 0) (refuses NothingFree) (does _ _)))
 

@@ -6,6 +6,7 @@ use base::Refusal;
 use erase::Release;
 use inspect::HOME;
 use volume::Answer;
+use volume::Lent;
 use volume::Part;
 use volume::Partition;
 
@@ -44,7 +45,7 @@ fn destroy_open(img: &mut [u8], p: Partition, f: usize, limit: usize) -> Answer
 pub fn destroy(img: &mut [u8], drive: usize, s: usize, f: usize, limit: usize) -> Answer
     ensures { λ a. ⌜ Answered limit (planned drive (now (img .entry)) s (destroy f)) (now (img .entry)) (now (img .exit)) a ⌝ }
 {
-    let g = change::enter(img, drive, s, true);
+    let g = change::enter(img, drive, s, Lent::Fine);
     match g {
         Part::Good(e) => destroy_open(img, Partition { drive, s, e }, f, limit),
         Part::Refused(why) => change::refused(why),

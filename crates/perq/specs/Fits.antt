@@ -21,8 +21,10 @@ use Rattle.volume.specs.Index.{wf-of, member}
 use Rattle.volume.specs.Reads.{in-part, lies, inside-of, candidate-in}
 use Rattle.volume.specs.Steps.{lowest-at}
 use Rattle.volume.specs.Answers.{partition, inPartition, lowest, lowestMalformed, fileAbove, foundFile, nextFile, tallied, checkClean, checkIn, checked, ofFile, showIn, shown, eitherOf, shownPair, readFrom, plain, describedAs, extractIn, extracted}
-use Rattle.volume.specs.Calls.{Planned, refuse, unmarred, through, createIn, appendIn, writeIn, describeIn, destroyIn, repairIn, planned, Answered, Call, create, write, describe, destroy, repair}
+use Rattle.volume.specs.Calls.{Planned, refuse, lending, lentBlock, lentText, unmarred, through, createIn, appendIn, writeIn, describeIn, destroyIn, repairIn, planned, Answered, Call, create, write, describe, destroy, repair}
 use Rattle.volume.specs.Writes.{needs}
+use Rattle.volume.specs.declared.Lent.{Lent}
+use Rattle.volume.specs.declared.Lent.the-variants.{Fine, WrongLength, WrongName}
 use Rattle.volume.specs.declared.Found.{Found}
 use Rattle.volume.specs.declared.Found.the-variants.{At, Nothing}
 use Rattle.volume.specs.declared.Part.the-variants as part
@@ -183,12 +185,17 @@ planned-clean π v x few o h = go (lowestMalformed π v) refl
     go (At f) q = omega (arith, lowest-at (isMalformed π v) (π .s + 1) (π .e - π .s) f q)
     go Nothing q = h
 
-through-fits : (d : ℕ) (l : List ℕ) (s : ℕ) (fits : Bool) (k : Partition → Planned)
-    → ((e : ℕ) → e < 69552 → sound (partitionOf d s e) (view l) ≡ true → OutcomeFits (k (partitionOf d s e) .outcome)) → OutcomeFits (through d l s fits k .outcome)
+lending-fits : (x : Lent) (k : Planned) → OutcomeFits (k .outcome) → OutcomeFits (lending x k .outcome)
+lending-fits Fine k h = h
+lending-fits WrongLength k h = omega arith
+lending-fits WrongName k h = omega arith
+
+through-fits : (d : ℕ) (l : List ℕ) (s : ℕ) (lent : Lent) (k : Partition → Planned)
+    → ((e : ℕ) → e < 69552 → sound (partitionOf d s e) (view l) ≡ true → OutcomeFits (k (partitionOf d s e) .outcome)) → OutcomeFits (through d l s lent k .outcome)
 unfolding through
-through-fits d l s fits k h =
+through-fits d l s lent k h =
     planned-part d l s _ (λ e g. let i = lies d l s e g in
-    pickp-fits fits _ _ (λ _. planned-clean (partitionOf d s e) (view l) _ (i .few) (omega (arith, i .order)) (pickp-fits (sound (partitionOf d s e) (view l)) _ _ (λ ok. h e (i .few) ok) (λ _. omega arith))) (λ _. omega arith))
+    lending-fits lent _ (planned-clean (partitionOf d s e) (view l) _ (i .few) (omega (arith, i .order)) (pickp-fits (sound (partitionOf d s e) (view l)) _ _ (λ ok. h e (i .few) ok) (λ _. omega arith))))
 
 module _ (d : ℕ) (l : List ℕ) (s e : ℕ) where
   abbrev π : Partition
@@ -227,10 +234,10 @@ module _ (d : ℕ) (l : List ℕ) (s e : ℕ) where
 
 pub planned-fits : (d : ℕ) (l : List ℕ) (s : ℕ) (c : Call) → OutcomeFits (planned d l s c .outcome)
 unfolding planned
-planned-fits d l s (create kind) = through-fits d l s true (λ π. createIn π (view l) kind) (λ e few ok. create-fits d l s e few ok kind)
-planned-fits d l s (write f r block) = through-fits d l s (eqb (length block) 512) (λ π. writeIn π (view l) f r (words block)) (λ e few ok. write-fits d l s e f r (words block))
-planned-fits d l s (describe f text) = through-fits d l s (eqb (length text) 104) (λ π. describeIn π (view l) f (words text)) (λ e few ok. describe-fits d l s e f (words text))
-planned-fits d l s (destroy f) = through-fits d l s true (λ π. destroyIn π (view l) f) (λ e few ok. destroy-fits d l s e f)
+planned-fits d l s (create kind) = through-fits d l s Fine (λ π. createIn π (view l) kind) (λ e few ok. create-fits d l s e few ok kind)
+planned-fits d l s (write f r block) = through-fits d l s (lentBlock block) (λ π. writeIn π (view l) f r (words block)) (λ e few ok. write-fits d l s e f r (words block))
+planned-fits d l s (describe f text) = through-fits d l s (lentText text) (λ π. describeIn π (view l) f (words text)) (λ e few ok. describe-fits d l s e f (words text))
+planned-fits d l s (destroy f) = through-fits d l s Fine (λ π. destroyIn π (view l) f) (λ e few ok. destroy-fits d l s e f)
 planned-fits d l s repair =
     planned-part d l s (λ e. unmarred (lowestMalformed (partitionOf d s e) (view l)) (repairIn (partitionOf d s e) (view l)))
     (λ e g. let i = lies d l s e g in planned-clean (partitionOf d s e) (view l) (repairIn (partitionOf d s e) (view l)) (i .few) (omega (arith, i .order)) (repair-fits d l s e))

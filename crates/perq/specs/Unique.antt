@@ -8,6 +8,7 @@ use lib.ListN.{length}
 use Rattle.drive.specs.Answers.{lbnToPda, pdaToLbn, lbnToLda, ldaToLbn, lbnToFileId, fileIdToLbn}
 use Rattle.image.specs.Stores.{lay}
 use Rattle.volume.specs.Answers.{checked, nextFile, shown, shownPair, readFrom, plain, readInto, describedAs, describedInto, extracted}
+use Rattle.volume.specs.Names.{nameAnswer}
 use Rattle.volume.specs.Calls.{planned, create, write, describe, destroy, repair}
 use Rattle.extract.specs.Into.{extractedInto}
 use Rattle.directory.specs.Directory.{lookUp, treed}
@@ -80,6 +81,9 @@ module _ (image : List ℕ) (drive s : ℕ) where
 pub perq-show-pair-unique : (original repaired : List ℕ) (drive s f r : ℕ) → OneAnswer (λ a.
     a ≡ flatFrom (shownPair drive original repaired s f r .image) (shownPair drive original repaired s f r .outcome))
 perq-show-pair-unique original repaired drive s f r a a′ p q = same p q
+
+pub perq-name-unique : (buffer : List ℕ) → OneAnswer (λ a. a ≡ flat 0 (nameAnswer buffer))
+perq-name-unique buffer a a′ p q = same p q
 
 -- ---- the calls that change the image
 

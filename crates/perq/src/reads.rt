@@ -1,6 +1,7 @@
 // The calls that change nothing, for a host.
 ghost use mathlib.Core.Path.{_≡_};
 ghost use Rattle.volume.specs.Answers.{checked, nextFile, shown, shownPair, readFrom, plain, readInto, describedAs, describedInto, extracted};
+ghost use Rattle.volume.specs.Names.{nameAnswer};
 ghost use lib.ListN.{length};
 ghost use Rattle.extract.specs.Into.{extractedInto};
 ghost use Rattle.perq.specs.Flat.{flat, flatFrom};
@@ -111,4 +112,12 @@ pub extern "C" fn perq_extract(
     let p = crate::wide(s);
     let g = crate::wide(f);
     crate::flat(0, extract::extract(image, d, p, g, buffer))
+}
+
+// What describe says of the name in a description: the rule that it breaks, and where.
+#[no_mangle]
+pub extern "C" fn perq_name(buffer: &[u8]) -> PerqAnswer
+    ensures { λ a. ⌜ a ≡ flat 0 (nameAnswer (now (buffer .entry))) ⌝ }
+{
+    crate::flat(0, names::name(buffer))
 }

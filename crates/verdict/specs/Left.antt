@@ -9,7 +9,7 @@ use lib.Dec.{eqb}
 use lib.ListN.{length}
 use Rattle.base.specs.Tests.{pick}
 use Rattle.base.specs.declared.Refusal.{Refusal}
-use Rattle.base.specs.declared.Refusal.the-variants.{BadImage, BadPartition, BadBuffer, Malformed, Unsound, NoCandidate, BadBlock, Full, NothingFree, NoAddress, TooDeep}
+use Rattle.base.specs.declared.Refusal.the-variants.{BadImage, BadPartition, BadBuffer, Malformed, Unsound, NoCandidate, BadBlock, Full, NothingFree, NoAddress, TooDeep, BadName}
 use Rattle.image.specs.View.{Store}
 use Rattle.image.specs.Image.{view}
 use Rattle.image.specs.Stores.{stored}
@@ -60,6 +60,7 @@ module _ (d : ℕ) (l : List ℕ) (s : ℕ) where
       go (Refused NothingFree) n = refl
       go (Refused NoAddress) n = refl
       go (Refused (TooDeep f)) n = refl
+      go (Refused BadName) n = refl
 
   pub changed : checked d l s ≡ Refused Unsound → settled d l s .image ≡ stored (planned d l s repair .list) l
   unfolding settled repaired

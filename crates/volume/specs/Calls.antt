@@ -1,14 +1,13 @@
 -- What each changing call answers and stores, of the image's bytes l: its refusals in their order (docs/FORMAT.md, 7.4), the values, the
 -- list of stores with the deciding one's place (9.2), and the file named or created.
 use mathlib.Core.Path.{_≡_}
-use mathlib.Core.Bool.{Bool, true}
 use mathlib.Core.List.{List, [], _∷_}
 use Prim.Native.Nat.{ℕ, _+_}
 use lib.Dec.{leb, ltb, eqb}
 use lib.ListN.{length, take}
 use Rattle.base.specs.Tests.{pick}
 use Rattle.base.specs.declared.Refusal.{Refusal}
-use Rattle.base.specs.declared.Refusal.the-variants.{BadBuffer, Malformed, Unsound, NoCandidate, BadBlock, Full, NothingFree}
+use Rattle.base.specs.declared.Refusal.the-variants.{BadBuffer, Malformed, Unsound, NoCandidate, BadBlock, Full, NothingFree, BadName}
 use Rattle.image.specs.View.{View, Rec, Store}
 use Rattle.image.specs.Image.{view}
 use Rattle.image.specs.Stores.{stored}
@@ -17,10 +16,13 @@ use Rattle.volume.specs.Keys.{reach}
 use Rattle.volume.specs.Files.{partitionOf, candidate, len, sound, free, freeHead, unowned}
 use Rattle.volume.specs.declared.Partition.{Partition}
 use Rattle.volume.specs.Answers.{partition, inPartition, lowestMalformed}
+use Rattle.volume.specs.Names.{goodName}
 use Rattle.volume.specs.Plans.{Plan, stores, createPlan, describePlan, destroyPlan, repairPlan}
 use Rattle.volume.specs.Writes.{needs, writePlan, replacePlan}
 use Rattle.volume.specs.declared.Found.{Found}
 use Rattle.volume.specs.declared.Found.the-variants.{At, Nothing}
+use Rattle.volume.specs.declared.Lent.{Lent}
+use Rattle.volume.specs.declared.Lent.the-variants.{Fine, WrongLength, WrongName}
 use Rattle.volume.specs.declared.Outcome.{Outcome}
 use Rattle.volume.specs.declared.Outcome.the-variants.{Done, Refused}
 use Rattle.volume.specs.declared.Answer.{Answer}
@@ -44,18 +46,33 @@ refuse y = record { outcome = Refused y; list = []; deciding = [] }
 abbrev pub finish : ℕ → Plan → Planned
 finish a p = record { outcome = Done a 0 0; list = stores p; deciding = length (p .before) ∷ [] }
 
--- ---- refusals 1 to 5, on the unchanged image
+-- ---- refusals 1 to 5 and 12, on the unchanged image
+
+-- 3 and 12, which the buffer alone decides, and then k
+abbrev pub lending : Lent → Planned → Planned
+lending Fine k = k
+lending WrongLength k = refuse BadBuffer
+lending WrongName k = refuse BadName
+
+-- a block, and a description, as lent
+unfoldable pub lentBlock : List ℕ → Lent
+lentBlock block = pick (eqb (length block) 512) Fine WrongLength
+
+unfoldable pub lentText : List ℕ → Lent
+lentText text = pick (eqb (length text) 104) (pick (goodName text) Fine WrongName) WrongLength
 
 -- 4, and then k
 abbrev pub unmarred : Found → Planned → Planned
 unmarred (At f) k = refuse (Malformed f)
 unmarred Nothing k = k
 
--- 1, 2, 3 where the buffer does not fit, 4, 5, and then k in the sound partition
-unfoldable pub through : ℕ → List ℕ → ℕ → Bool → (Partition → Planned) → Planned
-through d l s fits k =
-    inPartition refuse (partition d l s) (λ e. let π = partitionOf d s e in
-    pick fits (unmarred (lowestMalformed π (view l)) (pick (sound π (view l)) (k π) (refuse Unsound))) (refuse BadBuffer))
+-- 3, 12, 4, 5 in a good partition, and then k
+abbrev pub gated : Partition → View → Lent → Planned → Planned
+gated π v lent k = lending lent (unmarred (lowestMalformed π v) (pick (sound π v) k (refuse Unsound)))
+
+-- 1, 2, 3, 12, 4, 5, and then k in the sound partition
+unfoldable pub through : ℕ → List ℕ → ℕ → Lent → (Partition → Planned) → Planned
+through d l s lent k = inPartition refuse (partition d l s) (λ e. let π = partitionOf d s e in gated π (view l) lent (k π))
 
 -- ---- refusals 6 to 8 and the plans, in a sound partition
 
@@ -71,7 +88,7 @@ module _ (π : Partition) (v : View) where
   unfoldable pub appendIn : ℕ → ℕ → Rec → Planned
   appendIn f r dat = pick (leb room (needs π v f r)) (refuse Full) (finish 0 (writePlan π v f r dat))
 
-  -- 7 is a block above 4,159 or above L + 1
+  -- 7 is a block above 32,766 or above L + 1
   unfoldable pub writeIn : ℕ → ℕ → Rec → Planned
   writeIn f r dat =
       pick (candidate π v f)
@@ -100,12 +117,12 @@ pub data Call : Type 0 where
   destroy : ℕ → Call
   repair : Call
 
--- changing calls are refused by 1 to 8, repair by 1, 2, 4, 9
+-- changing calls are refused by 1 to 8 and 12, repair by 1, 2, 4, 9
 unfoldable pub planned : ℕ → List ℕ → ℕ → Call → Planned
-planned d l s (create kind) = through d l s true (λ π. createIn π (view l) kind)
-planned d l s (write f r block) = through d l s (eqb (length block) 512) (λ π. writeIn π (view l) f r (words block))
-planned d l s (describe f text) = through d l s (eqb (length text) 104) (λ π. describeIn π (view l) f (words text))
-planned d l s (destroy f) = through d l s true (λ π. destroyIn π (view l) f)
+planned d l s (create kind) = through d l s Fine (λ π. createIn π (view l) kind)
+planned d l s (write f r block) = through d l s (lentBlock block) (λ π. writeIn π (view l) f r (words block))
+planned d l s (describe f text) = through d l s (lentText text) (λ π. describeIn π (view l) f (words text))
+planned d l s (destroy f) = through d l s Fine (λ π. destroyIn π (view l) f)
 planned d l s repair =
     inPartition refuse (partition d l s) (λ e. let π = partitionOf d s e in unmarred (lowestMalformed π (view l)) (repairIn π (view l)))
 

@@ -4,6 +4,7 @@ pub mod Keys
 pub mod Places
 pub mod Files
 pub mod Answers
+pub mod Names
 pub mod Plans
 pub mod Writes
 pub mod Calls

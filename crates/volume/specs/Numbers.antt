@@ -20,7 +20,9 @@ use Rattle.volume.specs.Files.{partitionOf, inside, within, candidate, l
 use Rattle.volume.specs.declared.Partition.{Partition}
 use Rattle.volume.specs.Plans.{newFirst, pibLess, freshFib, gone, topGone, fibGone, topGoneStores, lastGoneStores, pibMore, destroyed, trimmed, shaped, stores, freeAt, takenStores, createPlan, describePlan, destroyPlan, content, relinked, freed, repaired, repairedPib, repairPlan}
 use Rattle.volume.specs.Writes.{put2If, over, counted, inner, needs, isNew, fresh, present′, spot′, above′, below′, least′, size′, link′, early, empty, base, entered, ended, body, grown, planOf, writePlan, replacePlan}
-use Rattle.volume.specs.Calls.{createIn, appendIn, writeIn, describeIn, destroyIn, repairIn}
+use Rattle.volume.specs.Calls.{refuse, gated, createIn, appendIn, writeIn, describeIn, destroyIn, repairIn}
+use Rattle.volume.specs.declared.Lent.the-variants.{WrongName}
+use Rattle.base.specs.declared.Refusal.the-variants.{Full}
 use lib.ListN.{replicate}
 use Rattle.image.specs.Image.{view}
 use Rattle.volume.specs.declared.Part.{Part}
@@ -35,7 +37,7 @@ partOf (part.Good e) = []
 partOf (part.Refused y) = 2 ∷ refusals.number y ∷ []
 
 -- the bytes of an image of three records on a floppy whose partition is 1..2
-pub small : List ℕ
+unfoldable pub small : List ℕ
 small = replicate 528 0 ++ (replicate 252 0 ++ (0 ∷ 1 ∷ 0 ∷ 224 ∷ 0 ∷ 2 ∷ 0 ∷ 224 ∷ (replicate 268 0 ++ replicate 528 0)))
 
 -- drive 0, partition 1..2, and its one block a fresh file
@@ -65,6 +67,7 @@ given =
     ∷ outcomeOf (createIn two w 5 .outcome)
     ∷ outcomeOf (repairIn two taken .outcome)
     ∷ oneNumber (lbnToFileId 2 57344)
+    ∷ outcomeOf (gated seven torn WrongName (refuse Full) .outcome)
     ∷ []
 
 pub numbers : List (List ℕ)
@@ -79,6 +82,7 @@ numbers =
     ∷ (2 ∷ 8 ∷ [])
     ∷ (2 ∷ 9 ∷ [])
     ∷ (10 ∷ [])
+    ∷ (2 ∷ 12 ∷ [])
     ∷ []
 
 pub each-given : given ≡ numbers

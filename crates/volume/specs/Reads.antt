@@ -18,6 +18,9 @@ use Rattle.volume.specs.Files.{partitionOf, blockAt, inside, candidate}
 use Rattle.volume.specs.declared.Partition.{Partition}
 use Rattle.drive.specs.Laws.{blocks-few}
 use Rattle.volume.specs.Answers.{imageGood, partGood, endOf, partition, inPartition, lowest}
+use Rattle.volume.specs.Names.{goodName}
+use Rattle.volume.specs.Calls.{lentBlock, lentText}
+use Rattle.volume.specs.declared.Lent.the-variants.{Fine, WrongLength, WrongName}
 use Rattle.volume.specs.declared.Found.the-variants.{At, Nothing}
 use Rattle.volume.specs.declared.Part.the-variants.{Good, Refused}
 use Rattle.base.specs.declared.Refusal.{Refusal}
@@ -59,6 +62,24 @@ pub none-lowest : (p : ℕ → Bool) (n a : ℕ) → ((x : ℕ) → a ≤ x → 
 unfolding lowest
 none-lowest p zero a h = refl
 none-lowest p (suc n) a h = let q : p a ≡ false = h a (omega arith) (omega arith) in rw (q, lowest) (none-lowest p n (a + 1) (λ x l u. h x (omega arith) (omega arith)))
+
+-- a buffer that is fine has the call's length, and a description that is has a good name
+pub fine-block : (block : List ℕ) → lentBlock block ≡ Fine → length block ≡ 512
+unfolding lentBlock
+fine-block block h = go (eqb (length block) 512) refl h
+  where
+    go : (t : Bool) → eqb (length block) 512 ≡ t → pick t Fine WrongLength ≡ Fine → length block ≡ 512
+    go true q h = eqb-true _ _ q
+    go false q h = let z : _≡_ {A = ℕ} 0 1 = cc in absurd (omega arith)
+
+pub fine-text : (text : List ℕ) → lentText text ≡ Fine → (length text ≡ 104) × (goodName text ≡ true)
+unfolding lentText
+fine-text text h = go (eqb (length text) 104) refl (goodName text) refl h
+  where
+    go : (t : Bool) → eqb (length text) 104 ≡ t → (u : Bool) → goodName text ≡ u → pick t (pick u Fine WrongName) WrongLength ≡ Fine → (length text ≡ 104) × (goodName text ≡ true)
+    go true q true r h = (eqb-true _ _ q, r)
+    go true q false r h = let z : _≡_ {A = ℕ} 0 1 = cc in absurd (omega arith)
+    go false q u r h = let z : _≡_ {A = ℕ} 0 1 = cc in absurd (omega arith)
 
 -- what a good partition gives the code that goes on with it
 pub record Lies (π : Partition) (l : List ℕ) : Type 0 where

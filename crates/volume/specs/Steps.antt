@@ -91,6 +91,16 @@ lowest-at p a (suc n) f q = go (p a) q (lowest-at p (a + 1) n f)
     go true q ih = let z : a ≡ f = cc in omega arith
     go false q ih = let z = ih q in omega arith
 
+-- and one that passes
+pub lowest-passes : (p : ℕ → Bool) (a n f : ℕ) → lowest p a n ≡ At f → p f ≡ true
+unfolding lowest
+lowest-passes p a zero f q = let z : _≡_ {A = ℕ} 0 1 = cc in absurd (omega arith)
+lowest-passes p a (suc n) f q = go (p a) refl q (lowest-passes p (a + 1) n f)
+  where
+    go : (t : Bool) → p a ≡ t → elim t [ true ↦ At a | false ↦ lowest p (a + 1) n ] ≡ At f → (lowest p (a + 1) n ≡ At f → p f ≡ true) → p f ≡ true
+    go true h q ih = let z : a ≡ f = cc in rw (← z) h
+    go false h q ih = ih q
+
 -- a search up to e that is at b: what is left to search has the whole's answer
 pub record Searching (p : ℕ → Bool) (e b : ℕ) (w : Found) : Type 0 where
   pub left : lowest p b (e - b) ≡ w

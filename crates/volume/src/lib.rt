@@ -22,6 +22,13 @@ pub enum Part {
     Refused(Refusal),
 }
 
+// The buffer that a changing call is lent, looked at alone: as the call wants it, of another length, or a description with a bad name.
+pub enum Lent {
+    Fine,
+    WrongLength,
+    WrongName,
+}
+
 // What a call came to: done, with up to three values; nothing there; or why it is refused.
 pub enum Outcome {
     Done(usize, usize, usize),

@@ -8,13 +8,14 @@ ghost use Rattle.image.specs.Saves.{words};
 ghost use Rattle.volume.specs.Keys.{reach};
 ghost use Rattle.volume.specs.Files.{candidate, len};
 ghost use Rattle.volume.specs.Plans.{freeAt};
-ghost use Rattle.volume.specs.Calls.{appendIn, writeIn, Answered, planned, write};
+ghost use Rattle.volume.specs.Calls.{lentBlock, appendIn, writeIn, Answered, planned, write};
 ghost use Rattle.records.specs.Records.{Block};
 ghost use Rattle.change.specs.Gate.{Opens};
 use append::Append;
 use base::Refusal;
 use inspect::REACH;
 use volume::Answer;
+use volume::Lent;
 use volume::Part;
 use volume::Partition;
 
@@ -111,6 +112,17 @@ fn write_open(
     append_open(img, p, f, n, block, limit)
 }
 
+// The block that write is lent: 3.
+fn lent(block: &[u8]) -> Lent
+    ensures { λ r. ⌜ r ≡ lentBlock (now (block .entry)) ⌝ }
+{
+    if block.len() == 512 {
+        Lent::Fine
+    } else {
+        Lent::WrongLength
+    }
+}
+
 // Write: the 512 bytes of `block` become block r of the file f.
 pub fn write(
     img: &mut [u8],
@@ -123,7 +135,7 @@ pub fn write(
 ) -> Answer
     ensures { λ a. ⌜ Answered limit (planned drive (now (img .entry)) s (write f r (now (block .entry)))) (now (img .entry)) (now (img .exit)) a ⌝ }
 {
-    let g = change::enter(img, drive, s, block.len() == 512);
+    let g = change::enter(img, drive, s, lent(block));
     match g {
         Part::Good(e) => write_open(img, Partition { drive, s, e }, f, r, block, limit),
         Part::Refused(why) => change::refused(why),
