@@ -30,8 +30,8 @@ impl Answer {
     }
 }
 
-/// A number of document 01's table "Numbers a caller sees", or document 02's 11; `block` is 0 except
-/// under 4 and 11.
+/// A number of document 01's table "Numbers a caller sees", or document 02's 11 and 12; `block` is 0
+/// except under 4 and 11.
 #[derive(Clone, Copy, Debug, PartialEq, Eq)]
 pub struct Refusal {
     pub number: u32,

@@ -1,32 +1,39 @@
 //! The changing calls create, write (replace; append is in append.rs), describe and destroy.
-//! Numbers are judged in the order 1 to 8; `file_at` gives only 6 here, for no candidate of a sound
-//! partition is malformed.
+//! Numbers are judged in the order 1, 2, 3, 12, 4 to 8; `file_at` gives only 6 here, for no candidate of
+//! a sound partition is malformed.
 
 use crate::address::NIL;
 use crate::allocation::{first_free, store_allocation};
 use crate::answer::{Answer, Refusal};
 use crate::append::append;
-use crate::file::{file_at, File, DESCRIPTION};
+use crate::file::{file_at, File};
 use crate::file::{
     BLOCKS_IN_USE, KIND, LAST_ADDRESS, LAST_BLOCK, LAST_NEGATIVE, LAST_NEGATIVE_ADDRESS,
 };
 use crate::image::{Partition, DATA, FREE_TAIL, NUMBER_FREE};
 use crate::index::{FIB, LAST_RELATIVE};
+use crate::name::describable;
 use crate::plan::Plan;
 use crate::record::Record;
 use crate::sound::sound;
 
-/// A sound partition; numbers 1 to 5 are judged here, 3 by the caller's word.
-fn judged(image: &[u8], drive: u32, s: u32, buffer_fits: bool) -> Result<Partition<'_>, Refusal> {
+/// A sound partition; numbers 1 to 5 are judged here, 3 and describe's 12 by what the caller found of
+/// its buffer.
+fn judged(
+    image: &[u8],
+    drive: u32,
+    s: u32,
+    buffer: Result<(), Refusal>,
+) -> Result<Partition<'_>, Refusal> {
     let partition = Partition::named(image, drive, s)?;
-    Refusal::unless(buffer_fits, 3)?;
+    buffer?;
     sound(&partition)?;
     Ok(partition)
 }
 
 pub fn plan_create(image: &[u8], drive: u32, s: u32, kind: u16) -> Plan {
     let planned = || {
-        let partition = judged(image, drive, s, true)?;
+        let partition = judged(image, drive, s, Ok(()))?;
         let free = first_free(&partition, 1)?;
         let f = free[0];
         let mut stores = vec![(f, empty_file(&partition, f, kind))];
@@ -55,7 +62,7 @@ fn empty_file(partition: &Partition, f: u32, kind: u16) -> Record {
 
 pub fn plan_write(image: &[u8], drive: u32, s: u32, f: u32, r: u32, buffer: &[u8]) -> Plan {
     let planned = || {
-        let partition = judged(image, drive, s, buffer.len() == DATA)?;
+        let partition = judged(image, drive, s, Refusal::unless(buffer.len() == DATA, 3))?;
         let file = file_at(&partition, f)?;
         Refusal::unless(r <= LAST_RELATIVE && r <= file.length(), 7)?;
         if r == file.length() {
@@ -71,7 +78,7 @@ pub fn plan_write(image: &[u8], drive: u32, s: u32, f: u32, r: u32, buffer: &[u8
 
 pub fn plan_describe(image: &[u8], drive: u32, s: u32, f: u32, buffer: &[u8]) -> Plan {
     let planned = || {
-        let partition = judged(image, drive, s, buffer.len() == DESCRIPTION)?;
+        let partition = judged(image, drive, s, describable(buffer))?;
         file_at(&partition, f)?;
         let mut fib = Record::of(&partition.image, f);
         fib.set_data(buffer);
@@ -82,7 +89,7 @@ pub fn plan_describe(image: &[u8], drive: u32, s: u32, f: u32, buffer: &[u8]) ->
 
 pub fn plan_destroy(image: &[u8], drive: u32, s: u32, f: u32) -> Plan {
     let planned = || {
-        let partition = judged(image, drive, s, true)?;
+        let partition = judged(image, drive, s, Ok(()))?;
         let file = file_at(&partition, f)?;
         let mut stores = destroyed(&partition, &file);
         let tail = partition.free_tail().expect("a sound partition has a free tail");

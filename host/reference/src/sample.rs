@@ -1,5 +1,6 @@
-//! Images for tests and benchmarks, and the small random generator they are made with.
-//! They are built directly, so that a large partition takes no time; tests compare them with the calls.
+//! Images for tests and benchmarks, and the small random generator they are made with. Descriptions are
+//! made in name_sample.rs.
+//! Images are built directly, so that a large partition takes no time; tests compare them with the calls.
 
 use crate::address::{Drive, NIL};
 use crate::file::{
@@ -8,6 +9,8 @@ use crate::file::{
 use crate::image::{DATA, FILLER, FREE_HEAD, FREE_TAIL, HEADER, NEXT, NUMBER_FREE, PARTITION_END};
 use crate::image::{PARTITION_START, PREVIOUS, RECORD, RELATIVE, SERIAL};
 use crate::index::{place, Level, FIB};
+
+pub use crate::name_sample::{named, random_name};
 
 /// A xorshift generator: the same seed gives the same numbers.
 #[derive(Clone, Debug)]

@@ -5,12 +5,12 @@ use crate::address::Drive;
 use crate::answer::{Answer, DONE};
 use crate::changing::{create, describe, write};
 use crate::directory::{Rule, ADDRESS, DIRECTORY, ENTRY, HASHES, LENGTH, LONGEST, NAME, SORT};
-use crate::file::{File, DESCRIPTION};
+use crate::file::File;
 use crate::image::{DATA, HEADER, RECORD, ROOT_DIRECTORY};
-use crate::sample::{fresh, growth};
+use crate::sample::{fresh, growth, named};
 use std::collections::HashMap;
 
-/// A tree to be made. Node 0 is the root; node i gets its FIB at s+1+i, and kind i.
+/// A tree to be made. Node 0 is the root; node i gets its FIB at s+1+i, kind i and the name "node i".
 #[derive(Clone, Debug, Default)]
 pub struct Tree {
     /// The hash rule: 26 weights, or no bytes.
@@ -162,7 +162,7 @@ pub fn plant(tree: &Tree, drive: u32, n: u32, s: u32, e: u32) -> Vec<u8> {
     let nodes = 0..tree.nodes.len();
     for (f, node) in (s + 1..).zip(&tree.nodes) {
         let kind = (f - s - 1) as u16;
-        let mut description = [0; DESCRIPTION];
+        let mut description = named(format!("node {kind}").as_bytes());
         description[2 * SORT..][..2].copy_from_slice(&node.sort.to_le_bytes());
         done(create(&mut image, drive, s, kind, u32::MAX));
         done(describe(&mut image, drive, s, f, &description, u32::MAX));

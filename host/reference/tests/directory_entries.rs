@@ -3,6 +3,7 @@
 
 mod common;
 use common::directories::*;
+use common::names::described;
 use common::*;
 use reference::tree_sample::{Line, Names, Node, Stand};
 use reference::*;
@@ -27,9 +28,9 @@ fn bytes_of_an_entry_and_of_its_row() {
     expected[32..].fill(7);
     assert_eq!(bytes, expected);
     // Word 8 of the description is 3: a directory, without entries here.
-    let mut words = [0; 104];
+    let mut words = described(0);
     words[16] = 3;
-    describe(&mut image, DRIVE, 300, 302, &words, ALL);
+    assert_eq!(describe(&mut image, DRIVE, 300, 302, &words, ALL), made(1));
     assert_eq!(tree(&image, DRIVE, 300, &[], &mut bytes), done(1, 0));
     expected[5] = 1;
     assert_eq!(bytes, expected);

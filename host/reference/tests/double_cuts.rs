@@ -3,6 +3,7 @@
 
 mod common;
 use common::double::{end, DRIVE};
+use common::names::described;
 use common::*;
 use reference::file::File;
 use reference::*;
@@ -28,8 +29,8 @@ fn contents(image: &[u8]) -> Vec<Contents> {
 fn two_files(r: u32) -> Vec<u8> {
     let e = end(r, 9) + 4;
     let mut image = sample::scattered(DRIVE, e + 3, 1, e, &[r, 3], 8);
-    describe(&mut image, DRIVE, 1, 2, &[6; 104], ALL);
-    describe(&mut image, DRIVE, 1, 3, &[7; 104], ALL);
+    assert_eq!(describe(&mut image, DRIVE, 1, 2, &described(6), ALL), made(1));
+    assert_eq!(describe(&mut image, DRIVE, 1, 3, &described(7), ALL), made(1));
     image
 }
 

@@ -3,6 +3,7 @@
 
 mod common;
 use common::low_bits::*;
+use common::names::described;
 use common::*;
 use reference::*;
 
@@ -222,9 +223,9 @@ fn replace_and_describe_touch_no_address() {
         assert!(after == expected);
     }
     let mut after = before.clone();
-    assert_eq!(describe(&mut after, DRIVE, 1, 2, &[8; 104], ALL), made(1));
+    assert_eq!(describe(&mut after, DRIVE, 1, 2, &described(8), ALL), made(1));
     let mut expected = before;
-    expected[528 * 2 + 16..][..104].fill(8);
+    expected[528 * 2 + 16..][..104].copy_from_slice(&described(8));
     assert!(after == expected);
 }
 

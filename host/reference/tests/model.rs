@@ -1,11 +1,12 @@
 //! Random calls, whole and cut, against a plain model: files as lists of blocks' data, and the free
 //! chain as a list. A cut call is repaired and must leave the old or the new files by its deciding store.
-//! LDAs are looked at too: what stays and what is written anew.
+//! LDAs are looked at too: what stays and what is written anew. About half the names are bad.
 
 mod common;
 use common::low_bits::*;
+use common::names::first_fault;
 use common::*;
-use reference::sample::Rng;
+use reference::sample::{random_name, Rng};
 use reference::*;
 use std::collections::BTreeMap;
 
@@ -82,6 +83,7 @@ impl Model {
                 new.files.insert(f, file);
             }
             Op::Write(f, r, data) => new.write(*f, *r as usize, data)?,
+            Op::Describe(_, description) if first_fault(description) != (0, 0) => return Err(12),
             Op::Describe(f, description) => {
                 new.files.get_mut(f).ok_or(6_u32)?.description = description.clone();
             }
@@ -140,7 +142,7 @@ fn random_op(rng: &mut Rng, model: &Model) -> Op {
     match rng.below(20) {
         0..=2 => Op::Create(rng.number() as u16),
         3..=5 => Op::Destroy(f),
-        6..=7 => Op::Describe(f, bytes[..104].to_vec()),
+        6..=7 => Op::Describe(f, random_name(rng).to_vec()),
         8..=10 => Op::Write(f, rng.below(length + 2), bytes),
         _ => Op::Write(f, length, bytes),
     }
@@ -164,8 +166,15 @@ fn call(image: &mut [u8], drive: u32, op: &Op, limit: u32) -> Answer {
     }
 }
 
+/// How many describes were done, whole or cut, and how many were refused by 12.
+#[derive(Default)]
+struct Names {
+    taken: u32,
+    bad: u32,
+}
+
 /// One random call, whole or cut and repaired; the model after it.
-fn step(rng: &mut Rng, image: &mut [u8], drive: u32, model: Model) -> Model {
+fn step(rng: &mut Rng, image: &mut [u8], drive: u32, model: Model, names: &mut Names) -> Model {
     let op = random_op(rng, &model);
     let plan = plan(image, drive, &op);
     let new = match model.after(&op) {
@@ -174,9 +183,11 @@ fn step(rng: &mut Rng, image: &mut [u8], drive: u32, model: Model) -> Model {
             let before = image.to_vec();
             assert_eq!(call(image, drive, &op, ALL), refused(number));
             assert!(plan.stores.is_empty() && image == before);
+            names.bad += u32::from(number == 12);
             return model;
         }
     };
+    names.taken += u32::from(matches!(op, Op::Describe(..)));
     let stores = plan.stores.len();
     assert!((1..=7).contains(&stores) && plan.deciding < stores);
     let limit = if rng.below(2) == 0 { ALL } else { rng.below(stores as u32 + 1) };
@@ -218,7 +229,7 @@ fn kept_or_clean(before: &[u8], old: &Model, after: &[u8], new: &Model) {
 }
 
 /// So many random calls; with `low_bits`, in images that have them in every LDA now and then.
-fn agree(drive: u32, seed: u64, calls: u32, low_bits: bool) {
+fn agree(drive: u32, seed: u64, calls: u32, low_bits: bool, names: &mut Names) {
     let mut rng = Rng::new(seed * 4 + u64::from(drive));
     let lengths = [rng.below(70), rng.below(200), rng.below(66), 0];
     let mut image = sample::scattered(drive, N, S, E, &lengths, seed);
@@ -232,7 +243,7 @@ fn agree(drive: u32, seed: u64, calls: u32, low_bits: bool) {
             assert_eq!(observe(&image, drive), model);
         }
         let (image_before, model_before) = (image.clone(), model.clone());
-        model = step(&mut rng, &mut image, drive, model);
+        model = step(&mut rng, &mut image, drive, model, names);
         assert_eq!(observe(&image, drive), model);
         kept_or_clean(&image_before, &model_before, &image, &model);
     }
@@ -241,14 +252,18 @@ fn agree(drive: u32, seed: u64, calls: u32, low_bits: bool) {
 
 #[test]
 fn random_calls_agree_with_the_model() {
+    let mut names = Names::default();
     for drive in 0..4 {
-        (0..2).for_each(|seed| agree(drive, seed, 200, false));
+        (0..2).for_each(|seed| agree(drive, seed, 200, false, &mut names));
     }
+    assert!(names.taken >= 40 && names.bad >= 40);
 }
 
 #[test]
 fn random_calls_among_low_bits_agree_with_the_model() {
+    let mut names = Names::default();
     for drive in 0..4 {
-        (2..4).for_each(|seed| agree(drive, seed, 200, true));
+        (2..4).for_each(|seed| agree(drive, seed, 200, true, &mut names));
     }
+    assert!(names.taken >= 40 && names.bad >= 40);
 }

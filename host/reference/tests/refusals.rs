@@ -1,6 +1,8 @@
-//! Each number 1 to 10, the order in which they are given, and that nothing is touched under them.
+//! Each number 1 to 10, the order in which they are given, and that nothing is touched under them. Number
+//! 12 is in names.rs.
 
 mod common;
+use common::names::described;
 use common::*;
 use reference::*;
 
@@ -29,7 +31,7 @@ fn every_call(image: &[u8], drive: u32, s: u32, f: u32, r: u32) -> Vec<Answer> {
         extract(image, drive, s, f, &mut []),
         changing(&|image| create(image, drive, s, 1, ALL)),
         changing(&|image| write(image, drive, s, f, r, &[1; 512], ALL)),
-        changing(&|image| describe(image, drive, s, f, &[1; 104], ALL)),
+        changing(&|image| describe(image, drive, s, f, &described(1), ALL)),
         changing(&|image| destroy(image, drive, s, f, ALL)),
         changing(&|image| repair(image, drive, s, ALL)),
     ];
@@ -194,7 +196,7 @@ fn eight_for_the_last_free_blocks() {
         assert_eq!(write(&mut image.clone(), 0, 1, 2, length + 1, &[0; 512], ALL).number, 7);
         assert_eq!(create(&mut image.clone(), 0, 1, 0, ALL).number, new);
         assert_eq!(write(&mut image.clone(), 0, 1, 2, 0, &[0; 512], ALL).made, 1);
-        assert_eq!(describe(&mut image.clone(), 0, 1, 2, &[0; 104], ALL).made, 1);
+        assert_eq!(describe(&mut image.clone(), 0, 1, 2, &described(0), ALL).made, 1);
         assert_eq!(destroy(&mut image, 0, 1, 2, ALL).made, 4);
     }
 }

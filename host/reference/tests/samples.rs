@@ -1,8 +1,9 @@
-//! The sample images are sound, and are what the calls would make.
+//! The sample images are sound, and are what the calls would make. Sample descriptions have the names
+//! they should.
 
 mod common;
 use common::*;
-use reference::sample::{blank, content, fresh, growth, scattered, Rng};
+use reference::sample::{blank, content, fresh, growth, named, random_name, scattered, Rng};
 use reference::*;
 
 #[test]
@@ -102,4 +103,57 @@ fn the_generator_is_deterministic() {
     let mut seen = [0; 10];
     (0..1_000).for_each(|_| seen[rng.below(10) as usize] += 1);
     assert!(seen.iter().all(|&times| times > 50));
+}
+
+#[test]
+fn named_descriptions() {
+    let mut words = [0; 104];
+    assert_eq!(named(b""), words);
+    words[22..26].copy_from_slice(&[3, b'L', b'o', b'g']);
+    assert_eq!(named(b"Log"), words);
+    words[22] = 81;
+    words[23..].fill(b'x');
+    assert_eq!(named(&[b'x'; 81]), words);
+}
+
+#[test]
+#[should_panic(expected = "at most 81 characters")]
+fn a_name_of_82_characters_does_not_fit() {
+    named(&[b'x'; 82]);
+}
+
+#[test]
+fn random_names_are_good_and_bad_at_the_limits() {
+    let mut rng = Rng::new(6);
+    let (mut rules, mut good_lengths, mut lengths) = ([0; 6], [0; 256], [0; 256]);
+    for _ in 0..10_000 {
+        let words = random_name(&mut rng);
+        let rule = name(&words).a;
+        rules[rule as usize] += 1;
+        lengths[usize::from(words[22])] += 1;
+        good_lengths[usize::from(words[22])] += u32::from(rule == 0);
+    }
+    assert!((4_500..=5_500).contains(&rules[0]), "{rules:?}");
+    assert!(rules[1..].iter().all(|&times| times > 300), "{rules:?}");
+    assert!([0, 1, 2, 79, 80, 81, 82, 255].iter().all(|&at: &usize| lengths[at] > 100));
+    assert!([1, 2, 79, 80].iter().all(|&at: &usize| good_lengths[at] > 100));
+    assert!((1..=80).all(|at| good_lengths[at] > 0));
+}
+
+#[test]
+fn random_names_have_what_would_be_bad_behind_them() {
+    let mut rng = Rng::new(7);
+    let (mut joint, mut dots, mut reserved) = (0, 0, 0);
+    for _ in 0..10_000 {
+        let words = random_name(&mut rng);
+        if name(&words).a != 0 {
+            continue;
+        }
+        let (text, behind) = words[23..].split_at(usize::from(words[22]));
+        joint += u32::from(behind.starts_with(b">"));
+        reserved += u32::from(behind.starts_with(b"<"));
+        let cut_off = |end: &[u8]| text.ends_with(end) && behind.starts_with(b">");
+        dots += u32::from(cut_off(b">.") || cut_off(b">.."));
+    }
+    assert!(joint > 100 && dots > 50 && reserved > 20, "{joint} {dots} {reserved}");
 }

@@ -1,6 +1,7 @@
 //! Store lists and whole records of append and destroy around pointer blocks, repair, and describe.
 
 mod common;
+use common::names::described;
 use common::*;
 use reference::*;
 
@@ -165,13 +166,13 @@ fn replace_and_describe() {
         assert!(after == expected);
     }
     let mut after = before.clone();
-    assert_eq!(describe(&mut after, DRIVE, 1, 2, &[8; 104], ALL), made(1));
+    assert_eq!(describe(&mut after, DRIVE, 1, 2, &described(8), ALL), made(1));
     let mut expected = before.clone();
-    expected[528 * 2 + 16..][..104].fill(8);
+    expected[528 * 2 + 16..][..104].copy_from_slice(&described(8));
     assert!(after == expected);
     let mut words = [0; 104];
     assert_eq!(description(&after, DRIVE, 1, 2, &mut words), Answer::default());
-    assert_eq!(words, [8; 104]);
+    assert_eq!(words, described(8));
 }
 
 #[test]

@@ -4,6 +4,7 @@
 pub mod directories;
 pub mod double;
 pub mod low_bits;
+pub mod names;
 
 use reference::*;
 
