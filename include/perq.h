@@ -32,7 +32,7 @@ enum { PERQ_DONE = 0, PERQ_ABSENT = 1, PERQ_REFUSED = 2 };
 /* A field that a call does not speak of is 0. */
 typedef struct perq_answer {
     uint32_t outcome; /* PERQ_DONE, PERQ_ABSENT or PERQ_REFUSED                          */
-    uint32_t number;  /* when refused: its number, 1 to 11 (docs/FORMAT.md, 7.3)         */
+    uint32_t number;  /* when refused: its number, 1 to 12 (docs/FORMAT.md, 7.3)         */
     uint32_t block;   /* when refused by 4: the LBN of the malformed candidate; by 11:   */
                       /* that of the directory of the tenth level                        */
     uint32_t made;    /* changing calls: how many stores were made                       */
@@ -70,6 +70,7 @@ perq_answer perq_description(const uint8_t *image, size_t length, uint32_t drive
 perq_answer perq_create(uint8_t *image, size_t length, uint32_t drive, uint32_t s, uint16_t kind, uint32_t limit);
 perq_answer perq_write(uint8_t *image, size_t length, uint32_t drive, uint32_t s, uint32_t f, uint32_t r,
                        const uint8_t *buffer, size_t buffer_length, uint32_t limit);
+/* Request 5: refused by 12, after 3 and before 4, for a bad name in the 104 bytes; perq_name says why. */
 perq_answer perq_describe(uint8_t *image, size_t length, uint32_t drive, uint32_t s, uint32_t f,
                           const uint8_t *buffer, size_t buffer_length, uint32_t limit);
 perq_answer perq_destroy(uint8_t *image, size_t length, uint32_t drive, uint32_t s, uint32_t f, uint32_t limit);
@@ -79,6 +80,21 @@ perq_answer perq_repair(uint8_t *image, size_t length, uint32_t drive, uint32_t 
  * refused as perq_read is (1, 2, 6, 4), then by 3 for a buffer of another length. PERQ_DONE: a = L + 1. */
 perq_answer perq_extract(const uint8_t *image, size_t length, uint32_t drive, uint32_t s, uint32_t f,
                          uint8_t *buffer, size_t buffer_length);
+
+/* An addition to the fixed interface above: what describe says of a name. The buffer is a description, 104 bytes; another
+ * length is refused by 3. PERQ_DONE: a = 0, b = 0 if perq_describe takes the name; otherwise it refuses it by 12, a = the
+ * rule that the name breaks and b = where:
+ *   1 the length is 0 or above 80; b = 0
+ *   2 a control character, below 32 or 127
+ *   3 "<", "/" or ":"
+ *   4 a final ">"
+ *   5 ">.>" or ">..>"
+ * For rules 2 to 5 b is the place, counted from 1, of the first character at which one of them is broken; a ">.>" or ">..>"
+ * is broken where its first ">" stands. At one character at most one of them is broken. With rule 1 no character is looked at.
+ *
+ * A name is words 11-51 of the description, length byte first: byte 22 is the length, byte 23 the first character. What stands
+ * past the length is not looked at. */
+perq_answer perq_name(const uint8_t *buffer, size_t buffer_length);
 
 /* ---- Request 1: directory names.
  *

@@ -1,5 +1,6 @@
-/* boundary.c: what the calls answer where a length is 0 and the address is NULL, as include/perq.h says. tools/example
- * compiles it as C and as C++ and runs both; it ends with status 0 if every answer is the right one. */
+/* boundary.c: what the calls answer where a length is 0 and the address is NULL, as include/perq.h says, and what describe
+ * and name answer to good and bad names. tools/example compiles it as C and as C++ and runs both; it ends with status 0 if
+ * every answer is the right one. */
 #include "perq.h"
 #include "perq.h" /* a second time, as it may come by way of other headers */
 #include <stdio.h>
@@ -38,6 +39,8 @@ static void make_image(void) {
     block[7] = 'x';
     perq_write(image, sizeof image, DRIVE, START, root, 0, block, sizeof block, UINT32_MAX);
     text[16] = 3;
+    text[22] = 1;
+    text[23] = 'r';
     perq_describe(image, sizeof image, DRIVE, START, root, text, sizeof text, UINT32_MAX);
     put_lda(word(6), root);
     memset(block, 0xA5, sizeof block);
@@ -105,9 +108,50 @@ static void no_buffer(void) {
     is("extract of nothing", perq_extract(image, sizeof image, DRIVE, START, empty, NULL, 0), PERQ_DONE, 0, 0, 0, 0);
     refused("write", perq_write(image, sizeof image, DRIVE, START, root, 0, NULL, 0, UINT32_MAX), 3);
     refused("describe", perq_describe(image, sizeof image, DRIVE, START, root, NULL, 0, UINT32_MAX), 3);
+    refused("name", perq_name(NULL, 0), 3);
     is("no rule", perq_look_up(image, sizeof image, DRIVE, START, NULL, 0, path, 1), PERQ_DONE, 0, empty, 0, 0);
     is("no path", perq_look_up(image, sizeof image, DRIVE, START, NULL, 0, NULL, 0), PERQ_DONE, 0, root, 0, 0);
     is("no rows", perq_tree(image, sizeof image, DRIVE, START, NULL, 0, NULL, 0), PERQ_DONE, 0, 0, 1, 0);
+}
+
+/* The description gets a name: its length, and the characters from the first on. */
+static void set_name(uint8_t length, const char *characters) {
+    text[22] = length;
+    memcpy(text + 23, characters, strlen(characters));
+    memcpy(text_before, text, sizeof text);
+}
+
+static perq_answer describe(uint32_t limit) {
+    return perq_describe(image, sizeof image, DRIVE, START, root, text, sizeof text, limit);
+}
+
+/* The name breaks a rule at a place: describe refuses it, and name says so. */
+static void bad_name(const char *what, uint32_t rule, uint32_t place) {
+    refused(what, describe(UINT32_MAX), 12);
+    is(what, perq_name(text, sizeof text), PERQ_DONE, 0, rule, place, 0);
+}
+
+static void names(void) {
+    set_name(0, "");
+    bad_name("no characters", 1, 0);
+    set_name(81, "<");
+    bad_name("81 characters", 1, 0);
+    set_name(2, "x\x1f");
+    bad_name("a control character", 2, 2);
+    set_name(3, "x/\x7f");
+    bad_name("a stroke", 3, 2);
+    set_name(2, "x>");
+    bad_name("a final >", 4, 2);
+    set_name(6, "x>..>y");
+    bad_name("two dots", 5, 2);
+    refused("a bad name in 103 bytes", perq_name(text, sizeof text - 1), 3);
+    set_name(3, ">.x/");
+    is("a good name, a stroke past its length", perq_name(text, sizeof text), PERQ_DONE, 0, 0, 0, 0);
+    is("a good name and no store", describe(0), PERQ_DONE, 0, 0, 0, 0);
+    if (describe(UINT32_MAX).made != 1 || memcmp(image + RECORD * root + HEADER, text, sizeof text) != 0) {
+        wrong = 1;
+        printf("a good name is not stored\n");
+    }
 }
 
 int main(void) {
@@ -116,5 +160,6 @@ int main(void) {
     no_image();
     no_image_of_a_pair();
     no_buffer();
+    names();
     return wrong;
 }

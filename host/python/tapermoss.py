@@ -6,6 +6,7 @@ first block, `f` a file by its own block, `r` a block of the file. A call that c
 and has then changed nothing. A block that a file does not have is None; an empty file has none at all. In the calls on
 directories `rule` is the hash rule, which says in what blocks of a directory a name's entry is looked for: 26 bytes, or
 none where it is not known, and then all blocks are. A name is bytes, for a disk does not say what letters they stand for.
+describe refuses a name that cannot be typed, and `name` says what is wrong with it.
 
 What a call changes, an image or a buffer, must not overlap with anything else that it is lent. A call that is given one
 bytearray for both, or views of one that share a byte, raises ValueError and has changed nothing; views that lie apart are
@@ -41,12 +42,13 @@ from typing import Any, NamedTuple, Optional, Union
 
 __all__ = [
     'RECORD', 'DATA', 'DESCRIPTION', 'ROW', 'ALL', 'Writable', 'Readable',
-    'Drive', 'Source', 'Summary', 'Shown', 'Target', 'What', 'Row', 'Tree', 'Created', 'Refused', 'Answer',
+    'Drive', 'Source', 'Summary', 'Shown', 'Target', 'What', 'Row', 'Tree', 'Created', 'NameRule', 'NameFault', 'Refused',
+    'Answer',
     'call',
     'lbn_to_pda', 'pda_to_lbn', 'lbn_to_lda', 'lda_to_lbn', 'lbn_to_fileid', 'fileid_to_lbn',
     'check', 'next_file', 'files', 'read', 'show', 'show_pair', 'description', 'extract', 'whole_file',
     'look_up', 'tree',
-    'blank', 'create', 'write', 'describe', 'destroy', 'repair',
+    'blank', 'create', 'write', 'describe', 'name', 'destroy', 'repair',
 ]
 
 RECORD = 528
@@ -62,6 +64,8 @@ Writable = Union[bytearray, memoryview, mmap.mmap, array.array]
 Readable = Union[bytes, Writable]
 
 _DONE, _ABSENT, _REFUSED = range(3)
+#: The byte of a description that has the length of the name; its characters follow.
+_NAME_AT = 2 * 11
 #: How many rows of a tree are asked for first.
 _FIRST_ROWS = 64
 
@@ -152,6 +156,36 @@ class Created(NamedTuple):
     made: int
 
 
+class NameRule(enum.IntEnum):
+    """What describe asks of a name: 1 to 80 characters, none of them a control character (below 32, or 127), none `<`, `/`
+    or `:`, no `>` at the end, and no `>.>` or `>..>`."""
+    LENGTH = 1
+    CONTROL = 2
+    RESERVED = 3
+    FINAL_JOINT = 4
+    DOTS = 5
+
+
+class NameFault(NamedTuple):
+    """The first fault of a name: the rule that it breaks, the place of the character that does, counted from 1, or 0 for the
+    length, and the bytes that stand there: the length's, the one character, or `>.>` or `>..>`."""
+    rule: NameRule
+    place: int
+    found: bytes
+
+    def __str__(self) -> str:
+        place, byte = self.place, self.found[0]
+        if self.rule is NameRule.LENGTH:
+            return f'the name has {byte} characters, and 80 is the most' if byte else 'the name has no characters'
+        if self.rule is NameRule.CONTROL:
+            return f'character {place} of the name is a control character ({byte})'
+        if self.rule is NameRule.RESERVED:
+            return f'character {place} of the name is "{chr(byte)}", which no name may have'
+        if self.rule is NameRule.FINAL_JOINT:
+            return 'the name ends in ">"'
+        return f'"{self.found.decode("ascii")}" stands at character {place} of the name'
+
+
 _SENTENCES = {
     1: 'the image is empty, not made of 528-byte records, or too long for the drive',
     2: 'no good partition starts at this block',
@@ -164,24 +198,27 @@ _SENTENCES = {
     9: 'the partition has no free block, so there is no chain to repair',
     10: 'this number is no block, address or FileID of the drive',
     11: 'the directory at block {} is of the tenth level, and only nine are looked into',
+    12: 'the name is one that describe does not take',
 }
 
 
 class Refused(Exception):
-    """A call that was refused: `number` says why, from 1 to 11; `block` is the malformed file block under number 4, the
-    directory of the tenth level under number 11."""
+    """A call that was refused: `number` says why, from 1 to 12; `block` is the malformed file block under number 4, the
+    directory of the tenth level under number 11; `fault` is what is wrong with the name under number 12, and else None."""
     number: int
     block: int
+    fault: Optional[NameFault]
 
-    def __init__(self, number: int, block: int = 0) -> None:
+    def __init__(self, number: int, block: int = 0, fault: Optional[NameFault] = None) -> None:
         # copy and pickle make a refusal anew by calling the class with these.
-        super().__init__(number, block)
+        super().__init__(number, block, fault)
         self.number = number
         self.block = block
+        self.fault = fault
 
     def __str__(self) -> str:
         sentence = _SENTENCES.get(self.number, 'the number is not known').format(self.block)
-        return f'refused ({self.number}): {sentence}'
+        return f'refused ({self.number}): {self.fault or sentence}'
 
 
 class Answer(ctypes.Structure):
@@ -218,6 +255,7 @@ _SIGNATURES = {
     'show_pair': _BYTES + _BYTES + [_U32] * 4,
     'description': _BYTES + [_U32] * 3 + _CHANGED,
     'extract': _BYTES + [_U32] * 3 + _CHANGED,
+    'name': _BYTES,
     'look_up': _BYTES + [_U32] * 2 + _BYTES + _BYTES,
     'tree': _BYTES + [_U32] * 2 + _BYTES + _CHANGED,
     'create': _CHANGED + [_U32] * 2 + [_U16, _U32],
@@ -520,8 +558,29 @@ def write(image: Writable, drive: int, s: int, f: int, r: int, data: Readable, l
 
 
 def describe(image: Writable, drive: int, s: int, f: int, description: Readable, limit: int = ALL) -> int:
-    """Sets the 104 bytes of a file's description; answers how many stores were made."""
-    return _given(call('describe', image, drive, s, f, description, limit)).made
+    """Sets the 104 bytes of a file's description; answers how many stores were made. A bad name in them is refused by 12;
+    the refusal's `fault` is what `name` says of it."""
+    answer = call('describe', image, drive, s, f, description, limit)
+    if answer.number == 12:
+        raise Refused(answer.number, fault=name(description))
+    return _given(answer).made
+
+
+def name(description: Readable) -> Optional[NameFault]:
+    """What describe says of the name in a description: None if it takes it, or else why it does not. The name is bytes 22 to
+    103, the first of which is its length.
+
+        fault = name(description)
+        if fault is not None:
+            print(fault.rule.name, fault.place, fault)
+    """
+    answer = _given(call('name', description))
+    if not answer.a:
+        return None
+    rule, at = NameRule(answer.a), _NAME_AT + answer.b
+    behind = bytes(_flat(description)[at:at + 4])
+    found = behind[:behind.index(b'>', 1) + 1] if rule is NameRule.DOTS else behind[:1]
+    return NameFault(rule, answer.b, found)
 
 
 def destroy(image: Writable, drive: int, s: int, f: int, limit: int = ALL) -> int:

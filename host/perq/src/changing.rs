@@ -3,7 +3,7 @@
 //! the one that was named, as it is after it.
 
 use crate::refusal::done;
-use crate::{lbn_to_lda, raw, Drive, Refusal, DATA, DESCRIPTION, RECORD};
+use crate::{lbn_to_lda, name, raw, Drive, Refusal, DATA, DESCRIPTION, RECORD};
 
 /// The limit that cuts no call short.
 pub const ALL: u32 = u32::MAX;
@@ -73,7 +73,24 @@ pub fn write(
     Ok(done(raw::write(image, drive.number(), s, f, r, data, limit))?.made)
 }
 
-/// Sets the description of file `f`; answers how many stores were made.
+/// Sets the description of file `f`; answers how many stores were made. A bad name in it is refused wherever the partition is
+/// a good one, and the refusal says which rule it breaks and where, as [`name`](crate::name) does.
+///
+/// ```
+/// use perq::{blank, create, describe, repair, Drive, NameFault, Refusal, ALL, DESCRIPTION};
+///
+/// let drive = Drive::Floppy;
+/// let mut image = blank(drive, 20, 1, 19)?;
+/// repair(&mut image, drive, 1, ALL)?;
+/// let file = create(&mut image, drive, 1, 0, ALL)?.file;
+/// let mut description = [0; DESCRIPTION];
+/// description[22..26].copy_from_slice(b"\x03a/b");
+/// let refusal = describe(&mut image, drive, 1, file, &description, ALL).unwrap_err();
+/// assert_eq!(refusal, Refusal::Name(NameFault::Reserved { place: 2, byte: b'/' }));
+/// description[24] = b'>';
+/// assert_eq!(describe(&mut image, drive, 1, file, &description, ALL), Ok(1));
+/// # Ok::<(), Refusal>(())
+/// ```
 pub fn describe(
     image: &mut [u8],
     drive: Drive,
@@ -82,7 +99,12 @@ pub fn describe(
     description: &[u8; DESCRIPTION],
     limit: u32,
 ) -> Result<u32, Refusal> {
-    Ok(done(raw::describe(image, drive.number(), s, f, description, limit))?.made)
+    let answer = raw::describe(image, drive.number(), s, f, description, limit);
+    // Which rule the name breaks does not stand in the answer.
+    if answer.number == 12 {
+        name(description)?;
+    }
+    Ok(done(answer)?.made)
 }
 
 /// Gives the blocks of file `f` to the free chain; answers how many stores were made.

@@ -3,7 +3,8 @@
 //! The work is done by a library that is proved against its specification; this crate gives it Rust's types. An image is a
 //! slice of 528-byte records in the order of their logical block numbers (LBNs). A partition is named by `s`, its first
 //! block; a file by `f`, the block that describes it; a block of a file by `r`, counted from 0. The names of files stand in
-//! directories: `look_up` follows a path from the root down, `tree` lists all that is there.
+//! directories: `look_up` follows a path from the root down, `tree` lists all that is there. A file's description has a name
+//! too; `describe` takes only one that can be typed, and `name` says what is wrong with another.
 //!
 //! Every call takes any image at all: one that it cannot accept is refused with a [`Refusal`], and then nothing was stored
 //! and no buffer was touched.
@@ -43,6 +44,7 @@ mod address;
 mod changing;
 mod directory;
 mod drive;
+mod name;
 #[allow(unsafe_code)]
 pub mod raw;
 mod reading;
@@ -54,6 +56,7 @@ pub use address::{
 pub use changing::{blank, create, describe, destroy, repair, write, Created, ALL};
 pub use directory::{look_up, tree, Row, Rule, Target, Tree, What, JOINT, ROW};
 pub use drive::Drive;
+pub use name::{name, NameFault};
 pub use reading::{
     check, description, extract, files, next_file, read, show, show_pair, whole_file,
 };

@@ -9,7 +9,7 @@
 pub struct Answer {
     /// [`DONE`], [`ABSENT`] or [`REFUSED`].
     pub outcome: u32,
-    /// When refused: why, from 1 to 11.
+    /// When refused: why, from 1 to 12.
     pub number: u32,
     /// When refused by 4: the LBN of the malformed file block; by 11: that of the directory of the tenth level.
     pub block: u32,
@@ -78,6 +78,7 @@ extern "C" {
         buffer: *mut u8,
         buffer_length: usize,
     ) -> Answer;
+    fn perq_name(buffer: *const u8, buffer_length: usize) -> Answer;
     fn perq_look_up(
         image: *const u8,
         length: usize,
@@ -230,6 +231,12 @@ pub fn extract(image: &[u8], drive: u32, s: u32, f: u32, buffer: &mut [u8]) -> A
     unsafe {
         perq_extract(image.as_ptr(), image.len(), drive, s, f, buffer.as_mut_ptr(), buffer.len())
     }
+}
+
+/// What describe says of the name in a description, the 104 bytes: `a` is 0 if it takes it, otherwise the rule that the name
+/// breaks, from 1 to 5, at the place `b`.
+pub fn name(buffer: &[u8]) -> Answer {
+    unsafe { perq_name(buffer.as_ptr(), buffer.len()) }
 }
 
 /// What a path leads to: the file `a`, or, where `b` is 1, an entry that names no file. The rule has 26 bytes or none.

@@ -1,13 +1,14 @@
 //! Why a call refuses, and the step from a raw answer to a result.
 
 use crate::raw::{Answer, ABSENT, DONE, REFUSED};
+use crate::NameFault;
 use std::error::Error;
 use std::fmt;
 
 /// Why a call refused. Nothing was stored then, and no buffer was touched.
 ///
 /// ```
-/// use perq::{lbn_to_fileid, Drive, Refusal};
+/// use perq::{lbn_to_fileid, Drive, NameFault, Refusal};
 ///
 /// let refusal = lbn_to_fileid(Drive::Micropolis35, 57_344).unwrap_err();
 /// assert_eq!(refusal, Refusal::Address);
@@ -19,6 +20,10 @@ use std::fmt;
 /// assert_eq!(
 ///     Refusal::TooDeep { block: 812 }.to_string(),
 ///     "refused (11): the directory at block 812 is of the tenth level, and only nine are looked into"
+/// );
+/// assert_eq!(
+///     Refusal::Name(NameFault::Length { length: 81 }).to_string(),
+///     "refused (12): the name has 81 characters, and 80 is the most"
 /// );
 /// ```
 #[derive(Clone, Copy, Debug, PartialEq, Eq, Hash)]
@@ -52,10 +57,15 @@ pub enum Refusal {
         /// The LBN of that directory.
         block: u32,
     },
+    /// 12: the name in a description is one that `describe` does not take.
+    Name(
+        /// Which rule it breaks, and where.
+        NameFault,
+    ),
 }
 
 impl Refusal {
-    /// The refusal's number, 1 to 11.
+    /// The refusal's number, 1 to 12.
     pub fn number(self) -> u32 {
         match self {
             Refusal::Image => 1,
@@ -69,10 +79,12 @@ impl Refusal {
             Refusal::NoFreeBlock => 9,
             Refusal::Address => 10,
             Refusal::TooDeep { .. } => 11,
+            Refusal::Name(_) => 12,
         }
     }
 
-    /// The refusal of a number; `block` is only looked at for 4 and 11.
+    /// The refusal of a number from 1 to 11; `block` is only looked at for 4 and 11. Which fault 12 is about does not stand in
+    /// an answer: [`name`](crate::name) says it of the description.
     pub fn from_number(number: u32, block: u32) -> Option<Refusal> {
         Some(match number {
             1 => Refusal::Image,
@@ -121,16 +133,23 @@ impl fmt::Display for Refusal {
                 out,
                 "the directory at block {block} is of the tenth level, and only nine are looked into"
             ),
+            Refusal::Name(fault) => fault.fmt(out),
         }
     }
 }
 
 impl Error for Refusal {}
 
+impl From<NameFault> for Refusal {
+    fn from(fault: NameFault) -> Refusal {
+        Refusal::Name(fault)
+    }
+}
+
 /// The answer of a call that may also find nothing.
 ///
 /// # Panics
-/// On an outcome or a number that the interface does not have.
+/// On an outcome or a number that the interface does not have, and on 12, of which `describe` says more.
 pub(crate) fn found(answer: Answer) -> Result<Option<Answer>, Refusal> {
     match answer.outcome {
         DONE => Ok(Some(answer)),

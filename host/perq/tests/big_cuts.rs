@@ -2,7 +2,7 @@
 //! store, and so is destroy; the repair that follows is cut too, and begun again. The big file is as before or as after, as
 //! its own block's store decides, and the file beside it is as it was.
 
-use reference::sample::Rng;
+use reference::sample::{named, Rng};
 use reference::DONE;
 use trials::big::{self, FILE, LONGEST, OTHER};
 use trials::both::Both;
@@ -16,9 +16,9 @@ use trials::table::{table, table_after};
 fn sample(length: u32) -> (Place, Vec<u8>) {
     let place = big::place(length % 3, length, 5);
     let mut image = big::image(&place, length);
-    for (f, letter) in [(FILE, 6), (OTHER, 7)] {
-        let answer =
-            reference::describe(&mut image, place.drive, place.s, f, &[letter; 104], u32::MAX);
+    for (f, name) in [(FILE, "big"), (OTHER, "short")] {
+        let text = named(name.as_bytes());
+        let answer = reference::describe(&mut image, place.drive, place.s, f, &text, u32::MAX);
         assert_eq!(answer.made, 1);
     }
     (place, image)

@@ -105,7 +105,7 @@ fn must_be_malformed(both: &mut Both, place: &Place) {
         on(Name::Extract, FILE),
         place.create(1),
         place.write(OTHER, 3, 1),
-        on(Name::Describe, OTHER).with_buffer(&[1; 104]),
+        place.describe(OTHER, "letter"),
         place.destroy(FILE),
         place.call(Name::Repair),
     ];

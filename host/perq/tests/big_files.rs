@@ -87,10 +87,11 @@ fn extract_is_every_block() {
 fn describe_and_replace() {
     for length in [4_161, 4_289, 20_545] {
         let (place, mut both) = sample(length, 1);
-        let describe = place.call(Name::Describe).with_file(FILE).with_buffer(&[7; 104]);
+        let describe = place.describe(FILE, "letter");
         assert_eq!(every_limit(&mut both, &describe).made, 1);
+        assert!(is_refusal(every_limit(&mut both, &place.describe(FILE, "letter>")), 12));
         let reader = place.call(Name::Description).with_file(FILE).with_buffer(&[0; 104]);
-        assert_eq!(both.call_with(&reader, &[]).1, [7; 104]);
+        assert_eq!(both.call_with(&reader, &[]).1, describe.buffer);
         for r in [63, 4_159, length - 1] {
             let block = indexed(both.image(), &place, FILE, r as i32);
             let call = place.write(FILE, r, 9);

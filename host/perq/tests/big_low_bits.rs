@@ -71,8 +71,7 @@ fn appends() {
 #[test]
 fn describe_replace_and_destroy() {
     let (place, twins) = twins(20_546);
-    let describe = place.call(Name::Describe).with_file(FILE).with_buffer(&[7; 104]);
-    assert_eq!(called(&twins, &place, &describe), 0);
+    assert_eq!(called(&twins, &place, &place.describe(FILE, "letter")), 0);
     assert_eq!(called(&twins, &place, &place.write(FILE, 20_544, 9)), 0);
     // FreeTail; the addresses of the file are no more.
     assert_eq!(called(&twins, &place, &place.destroy(FILE)), 1);

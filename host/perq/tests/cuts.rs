@@ -4,6 +4,7 @@
 
 use perq::{Drive, ALL};
 use reference::sample::{fresh, Rng};
+use reference::REFUSED;
 use std::collections::HashSet;
 use trials::both::Both;
 use trials::call::{Call, Name};
@@ -23,8 +24,11 @@ fn every_call(files: &[File], place: &Place) -> Vec<Call> {
             let byte = file.bytes.get(512 * r).map_or(1, |byte| byte % 2 + 1);
             calls.push(of(Name::Write).with_block(r as u32).with_buffer(&[byte; 512]));
         }
-        let letter = file.description[0] % 2 + 1;
-        calls.push(of(Name::Describe).with_buffer(&[letter; 104]));
+        let (new, bad) = match file.description[23] {
+            b'a' => ("b>a", "b>..>a"),
+            _ => ("a", ""),
+        };
+        calls.extend([new, bad].map(|name| place.describe(file.f, name)));
         calls.push(of(Name::Destroy));
     }
     calls
@@ -46,6 +50,17 @@ fn repaired(both: &Both, place: &Place, rng: &mut Rng) -> Vec<u8> {
     at_once.image().to_vec()
 }
 
+/// A refused call makes no store, whatever its limit; and repair finds every file as it was.
+fn refused_under_every_limit(state: &[u8], before: &[File], call: &Call, place: &Place) {
+    for limit in [0, 1, 2, u32::MAX] {
+        let mut both = Both::new(state.to_vec());
+        let answer = both.call(&call.clone().with_limit(limit));
+        assert!(answer.outcome == REFUSED && both.image() == state, "{answer:?} under {limit}");
+        both.call(&place.call(Name::Repair));
+        assert!(table(both.image(), place) == before, "{:?} was refused", call.name);
+    }
+}
+
 /// Every cut of one call. Answers the image after the whole call, none if it was refused.
 fn try_call(
     state: &[u8],
@@ -58,7 +73,9 @@ fn try_call(
     let mut whole = Both::new(state.to_vec());
     let answer = whole.call(call);
     if answer.outcome != 0 {
-        assert_eq!(answer.number, 8, "a full partition is the only reason here: {answer:?}");
+        let only = if call.name == Name::Describe { 12 } else { 8 };
+        assert_eq!(answer.number, only, "a bad name or a full partition: {answer:?}");
+        refused_under_every_limit(state, before, call, place);
         return None;
     }
     let after = table_after(before, call, answer.a);

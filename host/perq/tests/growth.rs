@@ -234,7 +234,8 @@ fn descriptions_are_set_and_read_back() {
     let place = Place { drive: 1, n: 60, s: 4, e: 58 };
     let mut both = Both::new(shuffled(&place, &[3, 0], &mut rng(32)));
     for f in candidates(both.image(), &place) {
-        let text: Vec<u8> = (0..104).map(|i| i as u8 ^ f as u8).collect();
+        let mut text: Vec<u8> = (0..104).map(|i| i as u8 ^ f as u8).collect();
+        text[22..28].copy_from_slice(b"\x05>a>b.");
         let call = Call::new(Name::Describe, 1, 4).with_file(f).with_buffer(&text);
         assert_eq!(every_limit(&mut both, &call).made, 1);
         let reader = Call::new(Name::Description, 1, 4).with_file(f).with_buffer(&[0; 104]);

@@ -80,8 +80,7 @@ fn a_file_that_is_written_described_and_destroyed() {
             both.edit(|image| set_lda(image, 2, word, place.lda(3) + 77));
         }
         let before = both.image().to_vec();
-        let describe = place.call(Name::Describe).with_file(2).with_buffer(&[5; 104]);
-        every_limit(&mut both, &describe);
+        assert_eq!(every_limit(&mut both, &place.describe(2, "letter")).made, 1);
         every_limit(&mut both, &place.write(2, 0, 2));
         assert_eq!(changed_blocks(&before, both.image()), [2, 3]);
         let behind = RECORD * 2 + 16 + 104..RECORD * 3;

@@ -1,8 +1,8 @@
 //! Showing a block from a pair, and the typed answers: parts of the caller's own images.
 
-use perq::{Drive, Presence, Refusal, Source, Summary};
+use perq::{Drive, NameFault, Presence, Refusal, Source, Summary};
 use reference::image::RECORD;
-use reference::sample::{content, fresh, scattered};
+use reference::sample::{content, fresh, named, scattered};
 use trials::both::Both;
 use trials::call::{Call, Name};
 use trials::images::{set_word, DATA_WORD};
@@ -132,8 +132,15 @@ fn typed_answers_of_the_changing_calls() {
         Ok(perq::Created { file: 2, made: 3 })
     );
     assert_eq!(perq::write(&mut image, drive, 1, 2, 0, &content(0, 0, 0), perq::ALL), Ok(4));
-    assert_eq!(perq::describe(&mut image, drive, 1, 2, &[7; 104], perq::ALL), Ok(1));
-    assert_eq!(perq::description(&image, drive, 1, 2), Ok([7; 104]));
+    let letter = named(b"letter");
+    assert_eq!(perq::describe(&mut image, drive, 1, 2, &letter, perq::ALL), Ok(1));
+    let bad = NameFault::Reserved { place: 3, byte: b':' };
+    assert_eq!(perq::name(&named(b"no:name")), Err(bad));
+    assert_eq!(
+        perq::describe(&mut image, drive, 1, 2, &named(b"no:name"), perq::ALL),
+        Err(Refusal::Name(bad))
+    );
+    assert_eq!(perq::description(&image, drive, 1, 2), Ok(letter));
     assert_eq!(perq::destroy(&mut image, drive, 1, 2, 2), Ok(2));
     assert_eq!(perq::check(&image, drive, 1), Err(perq::Refusal::Unsound));
     assert_eq!(perq::blank(drive, 8, 0, 7), Err(perq::Refusal::Partition));

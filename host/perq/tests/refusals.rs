@@ -2,7 +2,7 @@
 
 use perq::{raw, Drive};
 use reference::image::RECORD;
-use reference::sample::scattered;
+use reference::sample::{named, scattered};
 use reference::tree_sample::set_root;
 use trials::both::Both;
 use trials::call::{Call, Name};
@@ -34,6 +34,9 @@ fn image_with(length: u32) -> Vec<u8> {
 /// A call on file 2 that is done, with every argument as it should be. A write replaces block 0.
 fn fine(name: Name, image: &[u8]) -> Call {
     let call = Call::new(name, PLACE.drive, PLACE.s).with_file(FILE);
+    if name == Name::Describe {
+        return call.with_buffer(&named(b"letters>first.text"));
+    }
     let length = word(image, FILE, DATA_WORD + 250).wrapping_add(1);
     call.with_buffer(&vec![0xA5; right_length(name, usize::from(length))])
 }
@@ -41,7 +44,7 @@ fn fine(name: Name, image: &[u8]) -> Call {
 fn right_length(name: Name, blocks: usize) -> usize {
     match name {
         Name::Read | Name::Write => 512,
-        Name::Description | Name::Describe => 104,
+        Name::Description => 104,
         Name::Extract => 512 * blocks,
         Name::Tree => 32 * 9,
         _ => 0,
@@ -111,6 +114,8 @@ fn cause(number: u32, image: &mut [u8], call: &mut Call) {
             name_itself(image);
             call.path = b"D>D>D>D>D>D>D>D>D>D".to_vec();
         }
+        // The first character becomes one that no name may have.
+        12 => call.buffer[23] = b'<',
         _ => unreachable!("{number} has a test of its own"),
     }
 }

@@ -88,7 +88,9 @@ fn a_case_ends_where_it_says_so() {
 
 #[test]
 fn a_call_that_is_not_known_is_an_error() {
-    for name in ["chek", "lba_to_lbn", "show_pair", "perq_check", "perq_lda_to_lbn", "Check"] {
+    let unknown =
+        ["chek", "lba_to_lbn", "show_pair", "name", "perq_check", "perq_lda_to_lbn", "Check"];
+    for name in unknown {
         must_fail(&GOOD.replacen("call check", &format!("call {name}"), 1), 4);
     }
     must_fail(&GOOD.replacen("call check 3 1 ", "call check 3 1 0 ", 1), 4);

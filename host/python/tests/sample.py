@@ -65,6 +65,11 @@ def with_bits(image, blocks=3):
     return image
 
 
+def named(name):
+    """A description of zeros but for this name."""
+    return bytes(22) + bytes([len(name)]) + name + bytes(81 - len(name))
+
+
 def malformed(drive):
     """The sample with a file block that says it uses 99 blocks."""
     image = sample(drive)

@@ -49,8 +49,11 @@ class Changing(unittest.TestCase):
 
     def test_describe(self):
         image = self.with_one_block()
-        self.assertEqual(tapermoss.describe(image, DRIVE, 1, 2, bytes(range(104))), 1)
-        self.assertEqual(tapermoss.description(image, DRIVE, 1, 2), bytes(range(104)))
+        description = bytes(range(22)) + b'\x06>a>b.c' + bytes(range(75))
+        self.assertEqual(tapermoss.describe(image, DRIVE, 1, 2, description, 0), 0)
+        self.assertEqual(tapermoss.description(image, DRIVE, 1, 2), bytes(104))
+        self.assertEqual(tapermoss.describe(image, DRIVE, 1, 2, description), 1)
+        self.assertEqual(tapermoss.description(image, DRIVE, 1, 2), description)
 
     def test_refusals_change_nothing(self):
         image = self.with_one_block()
@@ -59,6 +62,7 @@ class Changing(unittest.TestCase):
         self.refused(2, tapermoss.create, image, DRIVE, 2)
         self.refused(3, tapermoss.write, image, DRIVE, 1, 2, 1, bytes(511))
         self.refused(3, tapermoss.describe, image, DRIVE, 1, 2, bytes(103))
+        self.refused(12, tapermoss.describe, image, DRIVE, 1, 3, bytes(104))
         self.refused(6, tapermoss.destroy, image, DRIVE, 1, 3)
         self.refused(7, tapermoss.write, image, DRIVE, 1, 2, 2, bytes(512))
         self.assertEqual(image, before)
@@ -86,7 +90,8 @@ class Changing(unittest.TestCase):
 class Worked(unittest.TestCase):
     def test_every_case(self):
         # As many calls as tests/worked/README.md says.
-        counts = {'base.txt': 2819, 'request-1.txt': 1921, 'request-2.txt': 1979, 'request-4.txt': 1402}
+        counts = {'base.txt': 2819, 'request-1.txt': 1921, 'request-2.txt': 1979, 'request-4.txt': 1402,
+                  'request-5.txt': 1165}
         made = {}
         for path in files():
             name = os.path.basename(path)

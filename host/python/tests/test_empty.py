@@ -10,7 +10,7 @@ import tapermoss
 from tapermoss import Drive, Refused, Source, Summary, Target
 
 from .apart import FOLDER, LIBRARY, python
-from .sample import content, sample, set_pair
+from .sample import content, named, sample, set_pair
 
 DRIVE = Drive.FLOPPY
 
@@ -44,7 +44,7 @@ def changing(image):
     return [
         lambda: tapermoss.create(image, DRIVE, 1),
         lambda: tapermoss.write(image, DRIVE, 1, 2, 0, content(0)),
-        lambda: tapermoss.describe(image, DRIVE, 1, 2, bytes(104)),
+        lambda: tapermoss.describe(image, DRIVE, 1, 2, named(b'letter')),
         lambda: tapermoss.destroy(image, DRIVE, 1, 2),
         lambda: tapermoss.repair(image, DRIVE, 1),
     ]
@@ -70,6 +70,7 @@ class Empty(unittest.TestCase):
             self.refused(3, tapermoss.extract, image, DRIVE, 1, 2, buffer)
             self.refused(3, tapermoss.write, image, DRIVE, 1, 2, 0, buffer)
             self.refused(3, tapermoss.describe, image, DRIVE, 1, 2, buffer)
+            self.refused(3, tapermoss.name, buffer)
 
     def test_a_file_without_blocks(self):
         image = sample(DRIVE, blocks=0)

@@ -14,7 +14,7 @@ import typing
 import unittest
 
 import tapermoss
-from tapermoss import Drive, Refused
+from tapermoss import Drive, NameFault, NameRule, Refused
 
 from .apart import FOLDER, python
 from .sample import malformed
@@ -24,10 +24,12 @@ class Refusals(unittest.TestCase):
     def same(self, refusal, number, block, sentence):
         self.assertIs(type(refusal), Refused)
         self.assertEqual((refusal.number, refusal.block, str(refusal)), (number, block, sentence))
+        self.assertEqual(refusal.fault is None, number != 12)
 
     def test_a_copy_says_the_same(self):
-        for number in (*range(1, 12), 99):
-            refusal = Refused(number, 7 if number in (4, 11) else 0)
+        fault = NameFault(NameRule.DOTS, 3, b'>..>')
+        for number in (*range(1, 13), 99):
+            refusal = Refused(number, 7 if number in (4, 11) else 0, fault if number == 12 else None)
             whole = number, refusal.block, str(refusal)
             for protocol in range(pickle.HIGHEST_PROTOCOL + 1):
                 self.same(pickle.loads(pickle.dumps(refusal, protocol)), *whole)
@@ -48,12 +50,26 @@ class Refusals(unittest.TestCase):
 
     def test_the_sentences_are_those_of_the_crate(self):
         with open(os.path.join(FOLDER, '..', 'perq', 'src', 'refusal.rs')) as file:
-            shown = file.read().split('impl fmt::Display for Refusal')[1]
+            shown = file.read().split('impl fmt::Display for Refusal')[1].split('impl Error')[0]
         sentences = re.findall(r'Refusal::\w+[^"]*=>[^"]*"([^"]*)"', shown)
         said = [str(Refused(number, 812)) for number in range(1, 12)]
         self.assertEqual(said, [f'refused ({i}): ' + sentence.replace('{block}', '812')
                                 for i, sentence in enumerate(sentences, 1)])
-        self.assertEqual(str(Refused(12)), 'refused (12): the number is not known')
+        self.assertEqual(str(Refused(12)), 'refused (12): the name is one that describe does not take')
+        self.assertEqual(str(Refused(13)), 'refused (13): the number is not known')
+
+    def test_the_sentences_of_names_are_those_of_the_crate(self):
+        with open(os.path.join(FOLDER, '..', 'perq', 'src', 'name.rs')) as file:
+            shown = file.read().split('impl fmt::Display for NameFault')[1].split('impl Error')[0]
+        sentences = [found.replace('\\"', '"').replace('{:.<dots$}', '..') for found in
+                     re.findall(r'(?:write_str\(|write!\(out, )"((?:[^"\\]|\\.)+)"', shown)]
+        faults = [NameFault(NameRule.LENGTH, 0, b'\0'), NameFault(NameRule.LENGTH, 0, b'Q'),
+                  NameFault(NameRule.CONTROL, 3, b'\x1f'), NameFault(NameRule.RESERVED, 5, b'<'),
+                  NameFault(NameRule.FINAL_JOINT, 7, b'>'), NameFault(NameRule.DOTS, 4, b'>..>')]
+        self.assertEqual([str(fault) for fault in faults],
+                         [sentence.format(length=81, LONGEST=80, place=fault.place, byte=31, letter='<')
+                          for sentence, fault in zip(sentences, faults)])
+        self.assertEqual(len(sentences), len(faults))
 
 
 def defined():
@@ -92,7 +108,8 @@ class Names(unittest.TestCase):
         named = {tapermoss.Summary: ['files', 'owned', 'free'], tapermoss.Shown: ['view', 'source'],
                  tapermoss.Target: ['lbn'], tapermoss.Row: ['lbn', 'level', 'what', 'name', 'path'],
                  tapermoss.Tree: ['complete'],
-                 tapermoss.Created: ['file', 'made'], tapermoss.Refused: ['number', 'block'],
+                 tapermoss.Created: ['file', 'made'], tapermoss.NameFault: ['rule', 'place', 'found'],
+                 tapermoss.Refused: ['number', 'block', 'fault'],
                  tapermoss.Answer: [name for name, _ in tapermoss.Answer._fields_]}
         for kind, fields in named.items():
             with self.subTest(kind=kind.__name__):

@@ -95,6 +95,8 @@ class Overlap(unittest.TestCase):
     def test_views_of_one_bytearray_that_lie_apart(self):
         for name, pair in PAIRS.items():
             image, buffer = pair.make(DRIVE), bytearray(content(7) * 3)[:pair.length]
+            # As a description it has a name that is taken.
+            buffer[22:24] = b'\x01a'
             # The buffer lies right before the image and right behind it.
             for memory, cut in ((buffer + image, pair.length), (image + buffer, len(image))):
                 parts = sorted((memoryview(memory)[:cut], memoryview(memory)[cut:]), key=len, reverse=True)

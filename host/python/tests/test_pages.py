@@ -9,7 +9,7 @@ from tapermoss import Drive, Row, Summary, Target, What
 
 from .apart import FOLDER, LIBRARY, python
 from .planted import DIRECTORY, block, entry
-from .sample import content, set_pair
+from .sample import content, named, set_pair
 
 PAGE = os.path.join(FOLDER, '..', '..', 'docs', 'TOOL.md')
 DRIVE, S = Drive.FLOPPY, 6
@@ -42,7 +42,7 @@ def make_file(image, *blocks):
 def make_directory(image, name, lbn):
     """A directory whose only entry names this file."""
     f = make_file(image, block({0: entry(name, tapermoss.lbn_to_lda(DRIVE, lbn))}))
-    described = bytearray(tapermoss.DESCRIPTION)
+    described = bytearray(named(b'directory'))
     described[16] = DIRECTORY
     tapermoss.describe(image, DRIVE, S, f, described)
     return f

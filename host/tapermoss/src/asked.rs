@@ -47,7 +47,9 @@ impl<'a> Asked<'a> {
                     "the partition at block {s} has no free block, so there is no chain to repair"
                 )
             }
-            Refusal::Buffer | Refusal::Address | Refusal::TooDeep { .. } => return refusal.into(),
+            Refusal::Buffer | Refusal::Address | Refusal::TooDeep { .. } | Refusal::Name(_) => {
+                return refusal.into()
+            }
         };
         Problem::refused(refusal, &told)
     }

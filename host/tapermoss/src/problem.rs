@@ -1,9 +1,9 @@
-//! What ends a command, or the work on one image or partition, before it is done: the outcome, the library's number and
-//! block where it has refused, and the sentence that it is told in.
+//! What ends a command, or the work on one image or partition, before it is done: the outcome, the library's number, block
+//! and fault of a name where it has refused, and the sentence that it is told in.
 
 use crate::names::shown;
 use crate::outcome::Outcome;
-use perq::Refusal;
+use perq::{NameFault, Refusal};
 use std::io;
 use std::path::Path;
 
@@ -13,13 +13,15 @@ pub struct Problem {
     pub outcome: Outcome,
     pub number: Option<u32>,
     pub block: Option<u32>,
+    /// What is wrong with the name, under number 12.
+    pub name: Option<NameFault>,
     pub sentence: String,
 }
 
 impl Problem {
     /// One that the library has no number for.
     pub fn new(outcome: Outcome, sentence: String) -> Problem {
-        Problem { outcome, number: None, block: None, sentence }
+        Problem { outcome, number: None, block: None, name: None, sentence }
     }
 
     /// A refusal, in words that say more than the library's own.
@@ -28,9 +30,13 @@ impl Problem {
             Refusal::Malformed { block } | Refusal::TooDeep { block } => Some(block),
             _ => None,
         };
+        let name = match refusal {
+            Refusal::Name(fault) => Some(fault),
+            _ => None,
+        };
         let number = refusal.number();
         let sentence = format!("refused ({number}): {told}");
-        Problem { outcome: Outcome::Refused, number: Some(number), block, sentence }
+        Problem { outcome: Outcome::Refused, number: Some(number), block, name, sentence }
     }
 
     pub fn usage(sentence: impl Into<String>) -> Problem {

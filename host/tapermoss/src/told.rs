@@ -3,6 +3,7 @@
 use crate::outcome::Outcome;
 use crate::output;
 use crate::problem::Problem;
+use perq::NameFault;
 use serde_json::{json, Value};
 use std::process::ExitCode;
 
@@ -60,14 +61,23 @@ impl From<Problem> for Told {
     }
 }
 
-/// The four fields that every object has: of a command, of an image or of a partition.
+/// The four fields that every object has: of a command, of an image or of a partition. Under number 12 it has two more.
 pub fn reported(outcome: Outcome, problem: Option<&Problem>) -> Value {
-    json!({
+    let four = json!({
         "outcome": outcome.name(),
         "number": problem.and_then(|problem| problem.number),
         "block": problem.and_then(|problem| problem.block),
         "sentence": problem.map(|problem| &problem.sentence),
-    })
+    });
+    match problem.and_then(|problem| problem.name) {
+        Some(fault) => joined(four, &of_name(Some(fault))),
+        None => four,
+    }
+}
+
+/// Which rule a name breaks and where; null where it breaks none.
+pub fn of_name(fault: Option<NameFault>) -> Value {
+    json!({"name_rule": fault.map(NameFault::rule), "name_place": fault.map(NameFault::place)})
 }
 
 /// An object with the fields of another one too.

@@ -87,6 +87,7 @@ fn the_limit_counts_the_stores_of_all_blocks_of_a_write() {
 fn describe_sets_a_name_and_keeps_the_rest() {
     let folder = Folder::new();
     let mut description: Vec<u8> = (0..104).collect();
+    description[22..26].copy_from_slice(b"\x03old");
     let bytes = folder.put("description", &description);
     let image = folder.put("disk", &sample());
     let told = printed(&["describe", &image, "--file", "8", "--bytes", &bytes]);
@@ -319,16 +320,14 @@ fn wrong_uses_of_the_changing_commands() {
     let folder = Folder::new();
     let image = folder.put("disk", &sample());
     let empty = folder.put("empty", b"");
-    let long = "n".repeat(81);
     let new = folder.text("new");
-    let uses: [&[&str]; 13] = [
+    let uses: [&[&str]; 12] = [
         &["create", &image, "--kind", "65536"],
         &["write", &image, "--file", "7"],
         &["write", &image, "--from", &empty],
         &["write", &image, "--file", "7", "--from", &empty],
         &["describe", &image, "--file", "7"],
-        &["describe", &image, "--file", "7", "--name", ""],
-        &["describe", &image, "--file", "7", "--name", &long],
+        &["describe", &image, "--file", "7", "--name", "Br\u{fc}cke"],
         &["describe", &image, "--file", "7", "--name", "x", "--bytes", &empty],
         &["destroy", &image],
         &["repair"],

@@ -72,6 +72,7 @@ fn all_kinds() -> Folder {
     folder.put("empty", b"");
     folder.put("odd", &scattered(0, 40, 1, 39, &[3, 0], 7));
     folder.put("short", &[1; 90]);
+    folder.put("nameless", &[0; 104]);
     folder.put("big", &[1; 512 * 400]);
     for name in ["images", "bare"] {
         fs::create_dir(folder.path(name)).expect("a folder");
@@ -115,10 +116,13 @@ fn agree(object: &Value, status: i32) {
     let has_block = object["number"] == 4 || object["number"] == 11;
     assert_eq!(object["block"].is_u64(), has_block, "{object}");
     if let Some(number) = object["number"].as_u64() {
-        assert!((1..=11).contains(&number) && matches!(status, 1 | 4), "{object}");
+        assert!((1..=12).contains(&number) && matches!(status, 1 | 4), "{object}");
         assert!(sentence.starts_with(&format!("refused ({number}): ")), "{object}");
     }
     assert!(status != 1 || object["number"].is_u64(), "refused without a number: {object}");
+    for name in ["name_rule", "name_place"] {
+        assert_eq!(object[name].is_u64(), object["number"] == 12, "{object}");
+    }
 }
 
 /// What comes of a line in a folder of its own, with `--json` before and after the command: the same.
@@ -192,7 +196,7 @@ fn every_command_answers_its_success_with_an_object() {
 }
 
 /// What the library refuses or a person must decide, with the number, and the block that is meant under 4 and 11.
-const REFUSALS: [(&str, &str, u64); 34] = [
+const REFUSALS: [(&str, &str, u64); 36] = [
     ("partitions @ragged", "refused", 1),
     ("partitions @empty", "refused", 1),
     ("check @empty", "refused", 1),
@@ -224,6 +228,8 @@ const REFUSALS: [(&str, &str, u64); 34] = [
     ("write @disk --file 7 --from @short --block 9", "refused", 7),
     ("describe @disk --file 7 --bytes @short", "refused", 3),
     ("describe @disk --file 10 --name x", "refused", 6),
+    ("describe @disk --file 7 --name a:b", "refused", 12),
+    ("describe @malformed --file 7 --bytes @nameless", "refused", 12),
     ("destroy @unsound --file 7", "refused", 5),
     ("address --drive 1 lbn 48450", "refused", 10),
     ("address --drive 2 fileid 57344", "refused", 10),
@@ -243,7 +249,7 @@ fn a_refusal_has_its_number_and_block() {
         assert_eq!(object["block"].as_u64(), block, "{line}: {object}");
     }
     let numbers: BTreeSet<u64> = REFUSALS.into_iter().map(|(_, _, number)| number).collect();
-    assert_eq!(numbers, (1..=11).collect(), "every number");
+    assert_eq!(numbers, (1..=12).collect(), "every number");
 }
 
 /// What has no number: the system's failures, names that are taken, and blocks and paths that are not there.

@@ -172,17 +172,19 @@ fn named() -> Vec<u8> {
 fn files_with_their_names() {
     let folder = Folder::new();
     let image = folder.put("disk", &named());
-    let text = "   LBN  FileID   kind  blocks  in use  name
-     7   57351      0       3       4  letter.text
-     8   57352      1       0       1  a\\\\\\x07\\xff
-     9   57353      2      70      72  -
+    let text = "   LBN  FileID   kind  blocks  in use     name
+     7   57351      0       3       4     letter.text
+     8   57352      1       0       1  !  a\\\\\\x07\\xff
+     9   57353      2      70      72  !  -
+! is a name that `describe` would refuse (12); with --json it is said which rule it breaks and where
 no paths: refused (6): the partition at block 6 has no root directory: its RootDirectoryID is nil
 ";
     assert_eq!(printed(&["files", &image]), text);
     let found: Value = serde_json::from_str(&printed(&["files", "--json", &image])).expect("JSON");
     let first = json!({
         "lbn": 7, "fileid": 57_351, "kind": 0, "blocks": 3, "in_use": 4, "name": "letter.text",
-        "name_bytes": "6c65747465722e74657874", "paths": [],
+        "name_bytes": "6c65747465722e74657874", "name_rule": null, "name_place": null,
+        "name_remark": null, "paths": [],
     });
     assert_eq!(found["files"][0], first);
     assert_eq!(found["files"][2]["name"], Value::Null);

@@ -6,7 +6,7 @@ mod common;
 use common::planted::{chain, escaped, letters, line, Led, Planted, S};
 use common::{fails, fails_with, misused, printed, printed_bytes, told, tool, Folder, FLOPPY};
 use reference::random_tree::{random_path, random_tree};
-use reference::sample::Rng;
+use reference::sample::{named, Rng};
 use reference::tree_sample::{set_root, Line, Node, Stand, Tree};
 use std::ffi::OsStr;
 use std::os::unix::ffi::OsStrExt;
@@ -34,7 +34,7 @@ fn looking_by_path_is_looking_by_block() {
 
 #[test]
 fn changing_by_path_is_the_change_of_that_file() {
-    let description = [7; 104];
+    let description = named(b"another name");
     let folder = Folder::new();
     let image = folder.put("disk", &letters().image);
     let one = folder.put("one", &[5; 512]);

@@ -9,7 +9,7 @@ use common::{
     fails, full, hex, malformed, printed, printed_bytes, sample, set_bytes, tapermoss, told, tool,
     unsound, Folder, FLOPPY,
 };
-use reference::sample::{content, scattered};
+use reference::sample::{content, named, scattered};
 use serde_json::Value;
 use std::ffi::{OsStr, OsString};
 use std::fs::{self, File};
@@ -176,7 +176,7 @@ fn bytes_to_write_come_from_standard_input_too() {
     let mut block = b"letter".to_vec();
     block.resize(512, 0);
     reference::write(&mut expected, FLOPPY, 6, 8, 0, &block, ALL);
-    for (option, given) in [("--from", &b"letter"[..]), ("--bytes", &[9; 104])] {
+    for (option, given) in [("--from", &b"letter"[..]), ("--bytes", &named(b"letter"))] {
         for name in ["/dev/stdin", "-"] {
             let command = if option == "--from" { "write" } else { "describe" };
             let out = folder.text("out");

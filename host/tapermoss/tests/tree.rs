@@ -7,7 +7,7 @@ use common::{
     fails, hex, misused, object, printed, set_bytes, set_word, tapermoss, Folder, FLOPPY,
 };
 use reference::random_tree::random_tree;
-use reference::sample::{scattered, Rng};
+use reference::sample::{named, scattered, Rng};
 use reference::tree_sample::{set_root, Line, Names, Node, Tree};
 use serde_json::{json, Value};
 
@@ -138,9 +138,9 @@ fn a_root_that_is_no_file_is_refused_by_6_and_said_why() {
 #[test]
 fn a_root_need_not_say_that_it_is_a_directory() {
     let mut image = letters().image;
-    let mut words = [0; 104];
+    let mut words = named(b"root");
     words[16] = 7;
-    reference::describe(&mut image, FLOPPY, 6, 7, &words, u32::MAX);
+    assert_eq!(reference::describe(&mut image, FLOPPY, 6, 7, &words, u32::MAX).made, 1);
     let folder = Folder::new();
     let changed = folder.put("changed", &image);
     let image = folder.put("disk", &letters().image);

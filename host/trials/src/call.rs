@@ -20,6 +20,8 @@ pub enum Name {
     ShowPair,
     Description,
     Extract,
+    /// perq_name: what describe says of a name.
+    Name,
     LookUp,
     Tree,
     Create,
@@ -29,10 +31,11 @@ pub enum Name {
     Repair,
 }
 
-/// What a call does with an image: it takes none, reads one or changes one.
+/// What a call does with an image: it takes none but a number or a description, reads one or changes one.
 #[derive(Clone, Copy, Debug, PartialEq, Eq)]
 pub enum Group {
     Conversions,
+    Names,
     Reading,
     Changing,
 }
@@ -46,6 +49,7 @@ impl Name {
         Name::LbnToFileid,
         Name::FileidToLbn,
     ];
+    pub const NAMES: [Name; 1] = [Name::Name];
     pub const READING: [Name; 9] = [
         Name::Check,
         Name::NextFile,
@@ -64,12 +68,15 @@ impl Name {
 
     /// Every call.
     pub fn all() -> impl Iterator<Item = Name> {
-        Name::CONVERSIONS.into_iter().chain(Name::READING).chain(Name::CHANGING)
+        let without = Name::CONVERSIONS.into_iter().chain(Name::NAMES);
+        without.chain(Name::READING).chain(Name::CHANGING)
     }
 
     pub fn group(self) -> Group {
         if Name::CONVERSIONS.contains(&self) {
             Group::Conversions
+        } else if Name::NAMES.contains(&self) {
+            Group::Names
         } else if Name::READING.contains(&self) {
             Group::Reading
         } else {
@@ -106,6 +113,11 @@ impl Call {
 
     pub fn conversion(name: Name, drive: u32, number: u32) -> Call {
         Call::new(name, drive, 0).with_number(number)
+    }
+
+    /// What describe says of the name in a description.
+    pub fn name_of(description: &[u8]) -> Call {
+        Call::new(Name::Name, 0, 0).with_buffer(description)
     }
 
     pub fn with_file(self, f: u32) -> Call {
@@ -206,6 +218,7 @@ pub fn on_library(call: &Call, image: &mut [u8], repaired: &[u8], buffer: &mut [
 pub fn on_library_lent(call: &Call, lent: Lent) -> Answer {
     let answer = match call.name.group() {
         Group::Conversions => conversion!(raw, call),
+        Group::Names => raw::name(lent.buffer),
         Group::Reading => reading!(raw, call, lent),
         Group::Changing => changing!(raw, call, lent),
     };
@@ -223,6 +236,7 @@ pub fn on_reference(call: &Call, image: &mut [u8], repaired: &[u8], buffer: &mut
     let lent = Lent { image, repaired, rule: &call.rule, path: &call.path, buffer };
     match call.name.group() {
         Group::Conversions => conversion!(reference, call),
+        Group::Names => reference::name(lent.buffer),
         Group::Reading => reading!(reference, call, lent),
         Group::Changing => changing!(reference, call, lent),
     }

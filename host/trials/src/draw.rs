@@ -8,7 +8,7 @@ use reference::directory::LONGEST;
 use reference::file::DESCRIPTION;
 use reference::image::DATA;
 use reference::random_tree::random_path;
-use reference::sample::Rng;
+use reference::sample::{random_name, Rng};
 use reference::tree::ROW;
 use reference::tree_sample::Tree;
 
@@ -69,11 +69,20 @@ fn buffer(right: usize, rng: &mut Rng) -> Vec<u8> {
     bytes
 }
 
+/// The buffer of a call, mostly of the right length; a description that is lent has a name, good in about every second.
+fn lent(name: Name, length: u32, rng: &mut Rng) -> Vec<u8> {
+    let bytes = buffer(right_buffer(name, length, rng), rng);
+    match name {
+        Name::Describe | Name::Name if bytes.len() == DESCRIPTION => random_name(rng).to_vec(),
+        _ => bytes,
+    }
+}
+
 /// The bytes that a call's buffer should have.
 fn right_buffer(name: Name, length: u32, rng: &mut Rng) -> usize {
     match name {
         Name::Read | Name::Write => DATA,
-        Name::Description | Name::Describe => DESCRIPTION,
+        Name::Description | Name::Describe | Name::Name => DESCRIPTION,
         Name::Extract => DATA * length as usize,
         Name::Tree => ROW * rows(rng),
         _ => 0,
@@ -141,7 +150,7 @@ pub fn call(names: &[Name], image: &[u8], place: &Place, files: &[u32], rng: &mu
         5 => rng.below(place.n + 2),
         _ => rng.below(12),
     };
-    let buffer = buffer(right_buffer(name, length, rng), rng);
+    let buffer = lent(name, length, rng);
     let r = block(length, rng);
     let (rule, path) = match Name::DIRECTORIES.contains(&name) {
         true => (rule(&[], rng), any_path(rng)),

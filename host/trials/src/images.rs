@@ -9,7 +9,7 @@ use reference::image::{
 };
 use reference::image::{PARTITION_END, PARTITION_START, ROOT_DIRECTORY};
 use reference::index;
-use reference::sample::{scattered, Rng};
+use reference::sample::{self, scattered, Rng};
 use reference::{lbn_to_lda, lbn_to_pda, lda_to_lbn, pda_to_lbn, DONE};
 
 /// A partition of an image: blocks s to e of n, on a drive.
@@ -42,6 +42,11 @@ impl Place {
     /// A write of 512 times the same byte.
     pub fn write(&self, f: u32, r: u32, byte: u8) -> Call {
         self.call(Name::Write).with_file(f).with_block(r).with_buffer(&[byte; 512])
+    }
+
+    /// A describe with this name and zeros around it.
+    pub fn describe(&self, f: u32, name: &str) -> Call {
+        self.call(Name::Describe).with_file(f).with_buffer(&sample::named(name.as_bytes()))
     }
 
     pub fn destroy(&self, f: u32) -> Call {

@@ -4,7 +4,8 @@ use crate::call::{Call, Name};
 use reference::{Answer, ABSENT, DONE, REFUSED};
 use std::collections::BTreeMap;
 
-/// How often each call had each outcome: 0 for done, the number for refused, `NONE` for absent, `PART` for part done.
+/// How often each call had each outcome: 0 for done, the number for refused, `NONE` for absent, `PART` for part done, `BROKEN`
+/// plus the rule for a bad name.
 #[derive(Clone, Debug, Default)]
 pub struct Tally(BTreeMap<(String, u32), u64>);
 
@@ -12,12 +13,17 @@ pub struct Tally(BTreeMap<(String, u32), u64>);
 pub const NONE: u32 = 100;
 /// Done in a tally, where a path leads to an entry that dangles, or a tree has more entries than rows.
 pub const PART: u32 = 101;
+/// Done in a tally, where the name that was asked about breaks a rule; its number is added.
+pub const BROKEN: u32 = 110;
+/// How many rules a name may break.
+const RULES: u32 = 5;
 
 impl Tally {
     pub fn add(&mut self, call: &Call, answer: Answer) {
         let outcome = match answer.outcome {
             ABSENT => NONE,
             DONE if Name::DIRECTORIES.contains(&call.name) && answer.b == 1 => PART,
+            DONE if call.name == Name::Name && answer.a > 0 => BROKEN + answer.a,
             DONE => 0,
             _ => answer.number,
         };
@@ -49,10 +55,11 @@ pub fn refusals(name: Name) -> &'static [u32] {
         Name::Show | Name::ShowPair => &[1, 2, 6, 4, 7],
         Name::Description => &[1, 2, 3, 6, 4],
         Name::Extract => &[1, 2, 6, 4, 3],
+        Name::Name => &[3],
         Name::LookUp | Name::Tree => &[1, 2, 3, 6, 11],
         Name::Create => &[1, 2, 4, 5, 8],
         Name::Write => &[1, 2, 3, 4, 5, 6, 7, 8],
-        Name::Describe => &[1, 2, 3, 4, 5, 6],
+        Name::Describe => &[1, 2, 3, 12, 4, 5, 6],
         Name::Destroy => &[1, 2, 4, 5, 6],
         Name::Repair => &[1, 2, 4, 9],
         _ => &[1, 10],
@@ -67,6 +74,9 @@ fn outcomes(name: Name) -> Vec<u32> {
     }
     if Name::DIRECTORIES.contains(&name) {
         outcomes.push(PART);
+    }
+    if name == Name::Name {
+        outcomes.extend((1..=RULES).map(|rule| BROKEN + rule));
     }
     outcomes
 }

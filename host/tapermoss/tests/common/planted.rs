@@ -1,7 +1,7 @@
 //! Trees that the reference plants on a floppy, its partition from 6 to 431, so that node i is file 7 + i; and what is to be
 //! found there, worked out from the description of the tree alone.
 
-use super::FLOPPY;
+use super::{set_bytes, FLOPPY};
 use reference::tree_sample::{plant, Line, Names, Node, Tree};
 
 pub const S: u32 = 6;
@@ -79,8 +79,10 @@ pub fn chain(levels: usize) -> Planted {
 }
 
 impl Planted {
+    /// The names in the descriptions are blank, as create leaves them, so that only directories name a file.
     pub fn of(tree: Tree) -> Planted {
-        let image = plant(&tree, FLOPPY, 432, S, E);
+        let mut image = plant(&tree, FLOPPY, 432, S, E);
+        (0..tree.nodes.len()).for_each(|node| set_bytes(&mut image, lbn(node), 11, &[0; 82]));
         Planted { tree, image }
     }
 

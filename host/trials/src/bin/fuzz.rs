@@ -4,6 +4,7 @@
 
 use reference::random_tree::random_tree;
 use reference::sample::Rng;
+use reference::Answer;
 use std::env;
 use std::fs::File;
 use std::os::unix::fs::FileExt;
@@ -16,6 +17,7 @@ use trials::draw::{self, candidates};
 use trials::guard::{Guarded, Side};
 use trials::images::{set_pair, shuffled, some_lengths, Place, DATA_WORD};
 use trials::low_bits;
+use trials::tally::Tally;
 use trials::trees::{some_tree, Planted};
 
 const RECORD: usize = 528;
@@ -77,8 +79,9 @@ impl Room {
         Room { image: new(), repaired: new(), rule: new(), path: new(), buffer: new() }
     }
 
-    /// Makes a call on the library in guarded memory and on the reference, and compares. Both images are left changed.
-    fn compare(&mut self, call: &Call, image: &mut [u8], repaired: &[u8], rng: &mut Rng) {
+    /// Makes a call on the library in guarded memory and on the reference, and compares; answers what both answered. Both
+    /// images are left changed.
+    fn compare(&mut self, call: &Call, image: &mut [u8], repaired: &[u8], rng: &mut Rng) -> Answer {
         let side = if rng.below(2) == 0 { Side::Start } else { Side::End };
         let lent = self.image.lend(image, side);
         let buffer = self.buffer.lend(&call.buffer, side);
@@ -92,12 +95,13 @@ impl Room {
         assert!(lent == image && second == repaired, "the images after {}", told(call));
         assert!(rule == call.rule && path == call.path, "rule and path after {}", told(call));
         assert!(*buffer == *expected, "the buffers after {}", told(call));
+        ours
     }
 }
 
 /// One image and some calls on it, one after the other; once in a while its length is that of no image. Answers how many
 /// calls these were.
-fn round(names: &[Name], room: &mut Room, rng: &mut Rng) -> u64 {
+fn round(names: &[Name], room: &mut Room, tally: &mut Tally, rng: &mut Rng) -> u64 {
     let Planted { tree, place, mut image } = some_image(rng);
     let mut repaired = image.clone();
     damage(&mut repaired, &place, rng);
@@ -109,7 +113,8 @@ fn round(names: &[Name], room: &mut Room, rng: &mut Rng) -> u64 {
     for _ in 0..calls {
         let files = candidates(&image, &place);
         let call = draw::aimed(draw::call(names, &image, &place, &files, rng), &tree, rng);
-        room.compare(&call, &mut image[..length], &repaired, rng);
+        let answer = room.compare(&call, &mut image[..length], &repaired, rng);
+        tally.add(&call, answer);
     }
     u64::from(calls)
 }
@@ -122,7 +127,7 @@ fn main() {
     let first: u64 =
         env::var("TAPERMOSS_SEED").ok().and_then(|text| text.parse().ok()).unwrap_or(clock);
     let names: Vec<Name> = Name::all().collect();
-    let (mut room, start) = (Room::new(), Instant::now());
+    let (mut room, mut tally, start) = (Room::new(), Tally::default(), Instant::now());
     println!("fuzz: {} calls for {seconds} seconds", names.len());
     let note = File::create("build/fuzz.seed")
         .expect("build/ is there: this runs at the top of the repository");
@@ -132,10 +137,12 @@ fn main() {
         // Written before the round, so that a trap leaves it behind as well.
         note.write_all_at(format!("{seed:20}\n").as_bytes(), 0)
             .expect("build/fuzz.seed is written");
-        calls += round(&names, &mut room, &mut Rng::new(seed));
+        calls += round(&names, &mut room, &mut tally, &mut Rng::new(seed));
         rounds += 1;
     }
     assert!(rounds > 0, "in {seconds} seconds no call is made");
     println!("fuzz: {calls} calls on {rounds} images, all as the reference has them");
+    let described = [0, 12].map(|outcome| tally.times(Name::Describe, outcome));
+    println!("fuzz: {} files described, {} names refused", described[0], described[1]);
     println!("1 passed, 0 failed");
 }
