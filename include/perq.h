@@ -76,22 +76,6 @@ perq_answer perq_describe(uint8_t *image, size_t length, uint32_t drive, uint32_
 perq_answer perq_destroy(uint8_t *image, size_t length, uint32_t drive, uint32_t s, uint32_t f, uint32_t limit);
 perq_answer perq_repair(uint8_t *image, size_t length, uint32_t drive, uint32_t s, uint32_t limit);
 
-/* ---- Request 6: collecting repair. It does what perq_repair does, and does not stop at malformed candidates: every block
- * that no file owns and whose serial is the PDA of a malformed candidate, the candidates included, becomes a data block of one
- * new file, in ascending order of LBN, its 512 bytes as they are. The new file's FIB and then its pointer blocks, by falling
- * relative number from -1, are the lowest other unowned blocks, in ascending order; it has the kind that is given and a
- * description of zeros. The unowned blocks that are left are the free chain. perq_repair itself does not collect.
- *
- * `made` and the stores are those of repair. PERQ_DONE: a = the LBN of the new file, b = the number of its data blocks; both 0
- * where no candidate is malformed, and then it is perq_repair, store for store, whatever the kind.
- * Refusals: 1, 2 and 9; never 4. 9 exactly if the unowned blocks that are not collected are fewer than the FIB, the pointer
- * blocks and one free block more; where no candidate is malformed, if no block is unowned.
- *
- * Under a limit that cuts it short every file that was well formed keeps its blocks and its bytes, and so it does through any
- * later repair of either kind. Not promised are then the new file's contents, which are those of the collected blocks only if
- * no collecting was cut; and that it can be finished: where few blocks are free, begun again it may be refused by 9. */
-perq_answer perq_collect(uint8_t *image, size_t length, uint32_t drive, uint32_t s, uint16_t kind, uint32_t limit);
-
 /* An addition to the fixed interface above: the whole file at once. The buffer is exactly 512 * (L + 1) bytes;
  * refused as perq_read is (1, 2, 6, 4), then by 3 for a buffer of another length. PERQ_DONE: a = L + 1. */
 perq_answer perq_extract(const uint8_t *image, size_t length, uint32_t drive, uint32_t s, uint32_t f,

@@ -1,6 +1,6 @@
-/* boundary.c: what the calls answer where a length is 0 and the address is NULL, as include/perq.h says, what describe and name
- * answer to good and bad names, and what repair and collect answer to a malformed file. tools/example compiles it as C and as
- * C++ and runs both; it ends with status 0 if every answer is the right one. */
+/* boundary.c: what the calls answer where a length is 0 and the address is NULL, as include/perq.h says, and what describe
+ * and name answer to good and bad names. tools/example compiles it as C and as C++ and runs both; it ends with status 0 if
+ * every answer is the right one. */
 #include "perq.h"
 #include "perq.h" /* a second time, as it may come by way of other headers */
 #include <stdio.h>
@@ -82,7 +82,6 @@ static void no_image(void) {
     refused("describe", perq_describe(NULL, 0, DRIVE, START, root, text, sizeof text, UINT32_MAX), 1);
     refused("destroy", perq_destroy(NULL, 0, DRIVE, START, root, UINT32_MAX), 1);
     refused("repair", perq_repair(NULL, 0, DRIVE, START, UINT32_MAX), 1);
-    refused("collect", perq_collect(NULL, 0, DRIVE, START, 0, UINT32_MAX), 1);
     refused("read without a buffer too", perq_read(NULL, 0, DRIVE, START, root, 0, NULL, 0), 1);
     refused("write without a buffer too", perq_write(NULL, 0, DRIVE, START, root, 0, NULL, 0, UINT32_MAX), 1);
 }
@@ -155,43 +154,6 @@ static void names(void) {
     }
 }
 
-/* The answer must have these fields and no others; the image may have changed. */
-static void changes(const char *what, perq_answer found, uint32_t number, uint32_t at, uint32_t made, uint32_t a, uint32_t b) {
-    uint32_t outcome = number == 0 ? PERQ_DONE : PERQ_REFUSED;
-    if (found.outcome != outcome || found.number != number || found.block != at || found.made != made || found.a != a ||
-        found.b != b || found.c != 0) {
-        wrong = 1;
-        printf("%s: outcome %u, number %u, block %u, made %u, a %u, b %u, c %u\n", what, found.outcome, found.number,
-               found.block, found.made, found.a, found.b, found.c);
-    }
-}
-
-static perq_answer collect(uint16_t kind, uint32_t limit) {
-    return perq_collect(image, sizeof image, DRIVE, START, kind, limit);
-}
-
-/* A file with a wrong number of blocks in use: repair refuses it, and collect makes a file of its own block and its data. */
-static void collecting(void) {
-    uint8_t *torn = image + RECORD * root + HEADER;
-    uint32_t file = empty + 2, stores = END - START + 1;
-    uint8_t *kind = image + RECORD * file + HEADER + 2 * 248;
-    memcpy(image_before, image, sizeof image);
-    is("collect of a sound partition and no store", collect(9, 0), PERQ_DONE, 0, 0, 0, 0);
-    torn[2 * 249] = 99;
-    memcpy(image_before, image, sizeof image);
-    changes("repair", perq_repair(image, sizeof image, DRIVE, START, UINT32_MAX), 4, root, 0, 0, 0);
-    refused("collect of no partition", perq_collect(image, sizeof image, DRIVE, END, 0, UINT32_MAX), 2);
-    is("collect and no store", collect(0x1234, 0), PERQ_DONE, 0, file, 2, 0);
-    changes("collect", collect(0x1234, UINT32_MAX), 0, 0, stores, file, 2);
-    if (memcmp(torn, image_before + RECORD * root + HEADER, 512) != 0 || kind[0] != 0x34 || kind[1] != 0x12) {
-        wrong = 1;
-        printf("a collected block has other data, or the new file another kind\n");
-    }
-    memcpy(image_before, image, sizeof image);
-    is("the partition then", perq_check(image, sizeof image, DRIVE, START), PERQ_DONE, 0, 2, 4, 6);
-    is("its first block", perq_show(image, sizeof image, DRIVE, START, file, 0), PERQ_DONE, 0, RECORD * root + HEADER, 512, 0);
-}
-
 int main(void) {
     make_image();
     is("the image", perq_check(image, sizeof image, DRIVE, START), PERQ_DONE, 0, 2, 3, 7);
@@ -199,6 +161,5 @@ int main(void) {
     no_image_of_a_pair();
     no_buffer();
     names();
-    collecting();
     return wrong;
 }

@@ -42,13 +42,13 @@ from typing import Any, NamedTuple, Optional, Union
 
 __all__ = [
     'RECORD', 'DATA', 'DESCRIPTION', 'ROW', 'ALL', 'Writable', 'Readable',
-    'Drive', 'Source', 'Summary', 'Shown', 'Target', 'What', 'Row', 'Tree', 'Created', 'Collected', 'NameRule', 'NameFault',
-    'Refused', 'Answer',
+    'Drive', 'Source', 'Summary', 'Shown', 'Target', 'What', 'Row', 'Tree', 'Created', 'NameRule', 'NameFault', 'Refused',
+    'Answer',
     'call',
     'lbn_to_pda', 'pda_to_lbn', 'lbn_to_lda', 'lda_to_lbn', 'lbn_to_fileid', 'fileid_to_lbn',
     'check', 'next_file', 'files', 'read', 'show', 'show_pair', 'description', 'extract', 'whole_file',
     'look_up', 'tree',
-    'blank', 'create', 'write', 'describe', 'name', 'destroy', 'repair', 'collect',
+    'blank', 'create', 'write', 'describe', 'name', 'destroy', 'repair',
 ]
 
 RECORD = 528
@@ -156,14 +156,6 @@ class Created(NamedTuple):
     made: int
 
 
-class Collected(NamedTuple):
-    """What collect made: the new file's block or None where no file was malformed, how many blocks of data it has, 0 where
-    there is none, and how many stores were made."""
-    file: Optional[int]
-    blocks: int
-    made: int
-
-
 class NameRule(enum.IntEnum):
     """What describe asks of a name: 1 to 80 characters, none of them a control character (below 32, or 127), none `<`, `/`
     or `:`, no `>` at the end, and no `>.>` or `>..>`."""
@@ -203,8 +195,7 @@ _SENTENCES = {
     6: 'this block, or the root directory, is no file of the partition',
     7: 'the block number is beyond what the file can have',
     8: 'the partition has too few free blocks',
-    9: "no block is left for the free chain, or in collecting too few for the new file's own block, its pointer blocks and the "
-       'chain',
+    9: 'the partition has no free block, so there is no chain to repair',
     10: 'this number is no block, address or FileID of the drive',
     11: 'the directory at block {} is of the tenth level, and only nine are looked into',
     12: 'the name is one that describe does not take',
@@ -272,7 +263,6 @@ _SIGNATURES = {
     'describe': _CHANGED + [_U32] * 3 + _BYTES + [_U32],
     'destroy': _CHANGED + [_U32] * 4,
     'repair': _CHANGED + [_U32] * 3,
-    'collect': _CHANGED + [_U32] * 2 + [_U16, _U32],
 }
 _MOST = {_U32: 2 ** 32 - 1, _U16: 2 ** 16 - 1}
 
@@ -599,23 +589,5 @@ def destroy(image: Writable, drive: int, s: int, f: int, limit: int = ALL) -> in
 
 
 def repair(image: Writable, drive: int, s: int, limit: int = ALL) -> int:
-    """Links every file and chains every free block anew; answers how many stores were made. Refused by 4 where a file is
-    malformed, since which blocks are free is then not known; collect repairs there too."""
+    """Links every file and chains every free block anew; answers how many stores were made."""
     return _given(call('repair', image, drive, s, limit)).made
-
-
-def collect(image: Writable, drive: int, s: int, kind: int = 0, limit: int = ALL) -> Collected:
-    """As repair, which is refused by 4 where a file is malformed; here what is left of such files becomes one new file of the
-    kind, with a description of zeros: every block that no file owns and whose serial is that of a malformed file, their own
-    blocks included, in ascending order. Where no file is malformed it is repair, store for store. Refused by 9 where too few
-    other blocks are left for the new file's own block, its pointer blocks and one free block more.
-
-    A limit that cuts it short leaves every well formed file its blocks and bytes, through any later repair of either kind too.
-    What the new file holds is then not promised, nor that collecting can be finished: begun again it may be refused by 9.
-
-        collected = collect(image, Drive.FLOPPY, 6)
-        if collected.file is not None:
-            print(whole_file(image, Drive.FLOPPY, 6, collected.file))
-    """
-    answer = _given(call('collect', image, drive, s, kind, limit))
-    return Collected(answer.a or None, answer.b, answer.made)

@@ -7,14 +7,15 @@ use Rattle.image.specs.View.{pair, put2}
 use Rattle.image.specs.Image.{view}
 use Rattle.volume.specs.Words.{serial_at, relative_at, next_at, previous_at}
 use Rattle.volume.specs.Keys.{reach, key_of}
-use Rattle.volume.specs.Files.{is_file, len, present, file_of, key, owned, above, below, link}
+use Rattle.volume.specs.Files.{len, present, candidate, file_of, key, owned, above, below, link}
 use Rattle.volume.specs.declared.Partition.{Partition}
-use Rattle.volume.specs.Index.{own, file_candidate, file_formed}
+use Rattle.volume.specs.Index.{own, file_candidate}
 use Rattle.volume.specs.Plans.{shaped, content, relinked}
 use Rattle.inspect.specs.Parts.{Opened}
-use Rattle.inspect.proofs.Laws.{opened_few, wf_opened}
-use Rattle.volume.specs.Reads.{Lies, candidate_in}
+use Rattle.inspect.proofs.Laws.{opened_few}
+use Rattle.links.proofs.Laws.{opened}
 use Rattle.frame.specs.Fitted.{next_small, prev_small}
+use Rattle.blocks.specs.Ready.{Ready}
 
 -- block b is key k of file f, which has n blocks: the file can be read, the links are pairs of words, and the record that they make is
 -- the definition's
@@ -27,16 +28,16 @@ pub record Filed (π : Partition) (l : List ℕ) (b f n k : ℕ) : Type 0 where
   pub is : put2 next_at (link π (view l) f (above π (view l) f k)) (put2 previous_at (link π (view l) f (below π (view l) f k)) (shaped n k (view l b))) ≡ relinked π (view l) b
 
 -- b is owned, and its serial leads to f
-module _ {π : Partition} {l : List ℕ} (b : ℕ) {x f : ℕ} (r : Lies π l) (o : owned π (view l) b ≡ true)
+module _ {π : Partition} {l : List ℕ} (b : ℕ) {x f : ℕ} (r : Ready π l) (o : owned π (view l) b ≡ true)
     (hx : x ≡ pair (view l) b serial_at) (hf : f ≡ pda_block π.drive x) where
   file_is : f ≡ file_of π (view l) b
   file_is = hf ∙ ap (pda_block π.drive) hx
 
-  is_file_of : is_file π (view l) f ≡ true
-  is_file_of = rw file_is (own π (view l) b o).file
+  is_candidate : candidate π (view l) f ≡ true
+  is_candidate = rw file_is (file_candidate π (view l) _ (own π (view l) b o).file)
 
   pub file_opened : Opened π l f
-  file_opened = wf_opened f r (candidate_in π (view l) f (file_candidate π (view l) f is_file_of)).1 (file_formed π (view l) f is_file_of)
+  file_opened = opened r.lies r.none f is_candidate
 
   pub filed : {n k : ℕ} → n ≡ len (view l) f → k ≡ key_of (view l b relative_at) → Filed π l b f n k
   unfolding key relinked content
@@ -46,7 +47,7 @@ module _ {π : Partition} {l : List ℕ} (b : ℕ) {x f : ℕ} (r : Lies π l) (
         opened = file_opened;
         short = rw hn (opened_few file_opened);
         here = here;
-        next = rw (file_is, hk) (next_small π (view l) r.few b o);
-        previous = rw (file_is, hk) (prev_small π (view l) r.few b o);
+        next = rw (file_is, hk) (next_small π (view l) r.lies.few b o);
+        previous = rw (file_is, hk) (prev_small π (view l) r.lies.few b o);
         is = rw (hn, file_is, hk);
       }

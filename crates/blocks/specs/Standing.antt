@@ -1,13 +1,14 @@
 -- Where repair stands among the unowned blocks as it goes from s+1 up to e: P holds of the unowned ones.
-use Rattle.std.specs.Prelude.{◌≡◌, ◌⊎◌, List, [], ◌∷◌, ◌++◌, Bool, length}
+use Rattle.std.specs.Prelude.{◌≡◌, ◌⊎◌, Bool, length}
 use Rattle.std.proofs.Math.Path.{refl, sym, ap}
-use Rattle.std.proofs.Common.{ap₂, ◌∙◌, inl, inr, append-nil, length-append}
+use Rattle.std.proofs.Common.{ap₂, ◌∙◌, inl, inr, length-append}
+use mathlib.Core.List.{List, [], ◌∷◌, ◌++◌, append-nil}
 use Rattle.std.proofs.Math.Bool.{true, false}
 use Prim.Native.Nat.{ℕ, zero, suc, ◌+◌, ◌-◌, ◌≤◌, ◌<◌}
 use native.Mathlib.Omega.{arith}
 use Rattle.base.specs.Tests.{pick, those, last_of, head_of, above, below}
 use Rattle.frame.specs.Chain.{above_those, below_those, head_least, length_most}
-use Rattle.frame.specs.Joined.{last_both, those_on, those_off, those_snoc}
+use Rattle.frame.specs.Joined.{last_both}
 
 -- at block b: the last one below b, or 0; the first from b on, or 0; and how many are below b
 pub record Standing (P : ℕ → Bool) (s e b last next count : ℕ) : Type 0 where
@@ -16,6 +17,26 @@ pub record Standing (P : ℕ → Bool) (s e b last next count : ℕ) : Type 0 wh
   pub many : count ≡ length (those (suc s) (b - suc s) P)
 
 module _ (P : ℕ → Bool) where
+  those_on : (i k : ℕ) → P i ≡ true → those i (suc k) P ≡ i ∷ those (suc i) k P
+  unfolding those
+  those_on i k q = ap (λ (t : Bool). pick t (i ∷ those (suc i) k P) (those (suc i) k P)) q
+
+  those_off : (i k : ℕ) → P i ≡ false → those i (suc k) P ≡ those (suc i) k P
+  unfolding those
+  those_off i k q = ap (λ (t : Bool). pick t (i ∷ those (suc i) k P) (those (suc i) k P)) q
+
+  -- one more at the end
+  those_snoc : (i k : ℕ) → those i (suc k) P ≡ those i k P ++ pick (P (i + k)) ((i + k) ∷ []) []
+  unfolding those
+  those_snoc i zero = ap (λ (n : ℕ). pick (P n) (n ∷ []) []) (let z : i ≡ i + 0 = omega arith in z)
+  those_snoc i (suc k) =
+      go (P i) (those_snoc (suc i) k ∙ ap (λ (n : ℕ). those (suc i) k P ++ pick (P n) (n ∷ []) []) (let z : suc i + k ≡ i + suc k = omega arith in z))
+    where
+      go : (t : Bool) → those (suc i) (suc k) P ≡ those (suc i) k P ++ pick (P (i + suc k)) ((i + suc k) ∷ []) []
+          → pick t (i ∷ those (suc i) (suc k) P) (those (suc i) (suc k) P) ≡ pick t (i ∷ those (suc i) k P) (those (suc i) k P) ++ pick (P (i + suc k)) ((i + suc k) ∷ []) []
+      go true ih = ap (λ (xs : List ℕ). i ∷ xs) ih
+      go false ih = ih
+
   -- where the last and the first of those lie
   pub last_under : (i k x : ℕ) → x < i → last_of x (those i k P) < i + k
   unfolding last_of those

@@ -6,8 +6,8 @@ ghost use Rattle.image.specs.Image.{view, rec_of};
 ghost use Rattle.volume.specs.Words.{serial_at, filler_at, next_at, previous_at};
 ghost use Rattle.volume.specs.Files.{owned};
 ghost use Rattle.volume.specs.Plans.{as_filler, trimmed, shaped, relinked};
-ghost use Rattle.volume.specs.Reads.{Lies};
 ghost use Rattle.blocks.specs.Records.{cleared, pib_record};
+ghost use Rattle.blocks.specs.Ready.{Ready};
 
 use inspect::HOME;
 use volume::Partition;
@@ -46,7 +46,7 @@ pub fn pib(img: &[u8], drive: usize, s: usize, first: usize, last: usize, n: usi
 }
 
 // A record whose words from w on are nil.
-pub fn cleared(r: [u8; 528], w: usize) -> [u8; 528]
+fn cleared(r: [u8; 528], w: usize) -> [u8; 528]
     requires { w ≤ 264 }
     ensures { rec_of result ≡ cleared w (rec_of r) }
 {
@@ -79,7 +79,7 @@ fn content(img: &[u8], b: usize, n: usize, k: usize) -> [u8; 528]
 
 // The record of an owned block, with the links of its key in its file.
 pub fn relinked(img: &[u8], p: Partition, b: usize) -> [u8; 528]
-    requires { (Lies p img.now) × (b ≤ p.e) × (owned p (view img.now) b ≡ true) }
+    requires { (Ready p img.now) × (b ≤ p.e) × (owned p (view img.now) b ≡ true) }
     ensures { rec_of result ≡ relinked p (view img.now) b }
 {
     let f = drive::pda_block(p.drive, image::pair(img, b, SERIAL));

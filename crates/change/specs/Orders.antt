@@ -1,4 +1,4 @@
--- A changing call makes no two stores in one block, and all but repair, plain or collecting, make at most ten.
+-- A changing call makes no two stores in one block, and all but repair make at most ten.
 use Rattle.std.specs.Prelude.{◌≡◌, ◌≢◌, length}
 use Rattle.std.proofs.Math.Path.{refl, ap}
 use Rattle.std.proofs.Math.Bool.{Bool, true, false}
@@ -20,8 +20,7 @@ use Rattle.volume.specs.Files.{partition_of, candidate, len, end, spot, least, s
 use Rattle.volume.specs.declared.Partition.{Partition}
 use Rattle.volume.specs.Plans.{st, stores, new_first, pib_less, gone, top_gone, pib_more, top_gone_stores, last_gone_stores, destroyed, free_at, free_tail, taken_stores, create_plan, describe_plan, destroy_plan, repaired, repair_plan}
 use Rattle.volume.specs.Writes.{needs, write_plan, replace_plan}
-use Rattle.volume.specs.Collect.{collected, others, needed, place, gathered}
-use Rattle.volume.specs.Calls.{Planned, refuse, finish, finish2, lent_block, lent_text, unmarred, through, room, Call, create, write, describe, destroy, repair, collect, create_in, append_in, write_in, describe_in, destroy_in, repair_in, gather_in, collect_by, collect_in, planned}
+use Rattle.volume.specs.Calls.{Planned, refuse, finish, lent_block, lent_text, unmarred, through, room, Call, create, write, describe, destroy, repair, create_in, append_in, write_in, describe_in, destroy_in, repair_in, planned}
 use Rattle.volume.specs.Answers.{lowest_malformed}
 use Rattle.volume.specs.Reads.{in_part}
 use Rattle.volume.specs.declared.Found.{Found}
@@ -181,14 +180,13 @@ module _ (d : ℕ) (l : List ℕ) (s : ℕ) where
         go false c = no_store
 
   -- every call but repair, on every image
-  pub orderly : (call : Call) → call ≢ repair → ((kind : ℕ) → call ≢ collect kind) → Orderly (planned d l s call).list
+  pub orderly : (call : Call) → call ≢ repair → Orderly (planned d l s call).list
   unfolding planned
-  orderly (create kind) n m = through_orderly Fine _ (λ e o. create_in_orderly e o kind)
-  orderly (write f r block) n m = through_orderly (lent_block block) _ (λ e o. write_in_orderly e o f r (words block))
-  orderly (describe f text) n m = through_orderly (lent_text text) _ (λ e o. describe_in_orderly e o f (words text))
-  orderly (destroy f) n m = through_orderly Fine _ (λ e o. destroy_in_orderly e o f)
-  orderly repair n m = absurd (n refl)
-  orderly (collect kind) n m = absurd (m kind refl)
+  orderly (create kind) n = through_orderly Fine _ (λ e o. create_in_orderly e o kind)
+  orderly (write f r block) n = through_orderly (lent_block block) _ (λ e o. write_in_orderly e o f r (words block))
+  orderly (describe f text) n = through_orderly (lent_text text) _ (λ e o. describe_in_orderly e o f (words text))
+  orderly (destroy f) n = through_orderly Fine _ (λ e o. destroy_in_orderly e o f)
+  orderly repair n = absurd (n refl)
 
 -- ---- repair, and so every call, makes at most one store in a block
 
@@ -212,9 +210,9 @@ module _ (g : ℕ → Rec) (b : ℕ) where
       go true q h = omega (arith, times_cons b (st i (g i)) rest, hit_one b i, run_low (suc i) k (omega (arith, eqb-true b i q)))
       go false q h = omega (arith, times_cons b (st i (g i)) rest, ap bit q)
 
-plan_once : (π : Partition) (v : View) (b : ℕ) → times b (stores (repair_plan π v)) ≤ 1
-unfolding repair_plan
-plan_once π v b = pib (eqb b π.s) refl
+repair_in_orderly : (π : Partition) (v : View) (b : ℕ) → times b (repair_in π v).list ≤ 1
+unfolding repair_in repair_plan
+repair_in_orderly π v b = go (eqb (length (unowned π v)) 0)
   where
     g : ℕ → Rec
     g = repaired π v (unowned π v)
@@ -224,21 +222,9 @@ plan_once π v b = pib (eqb b π.s) refl
         omega (arith, times_plan b (repair_plan π v), times_none b, hit_one b π.s, run_low g b (suc π.s) (π.e - π.s) (omega (arith, eqb-true b π.s q)))
     pib false q = omega (arith, times_plan b (repair_plan π v), times_none b, ap bit q, run_once g b (suc π.s) (π.e - π.s))
 
-repair_in_orderly : (π : Partition) (v : View) (b : ℕ) → times b (repair_in π v).list ≤ 1
-unfolding repair_in
-repair_in_orderly π v b = go (eqb (length (unowned π v)) 0)
-  where
     go : (t : Bool) → times b (pick t (refuse NothingFree) (finish 0 (repair_plan π v))).list ≤ 1
     go true = omega (arith, times_none b)
-    go false = plan_once π v b
-
-gather_in_orderly : (π : Partition) (v : View) (kind b : ℕ) → times b (gather_in π v kind).list ≤ 1
-unfolding gather_in
-gather_in_orderly π v kind b = go (ltb (needed (length (collected π v))) (length (others π v)))
-  where
-    go : (t : Bool) → times b (pick t (finish2 (place (collected π v) (others π v) home) (length (collected π v)) (repair_plan π (gathered π v kind))) (refuse NothingFree)).list ≤ 1
-    go true = plan_once π (gathered π v kind) b
-    go false = omega (arith, times_none b)
+    go false = pib (eqb b π.s) refl
 
 module _ (d : ℕ) (l : List ℕ) (s : ℕ) where
   pub repair_once : (b : ℕ) → occ b (places (planned d l s repair).list) ≤ 1
@@ -252,22 +238,10 @@ module _ (d : ℕ) (l : List ℕ) (s : ℕ) where
       go π (At f) = none
       go π Nothing = repair_in_orderly π (view l) b
 
-  pub collect_once : (kind b : ℕ) → occ b (places (planned d l s (collect kind)).list) ≤ 1
-  unfolding planned collect_in
-  collect_once kind b = in_part (λ x. times b x.list ≤ 1) refuse none none d l s _ (λ e _. go (partition_of d s e) (lowest_malformed (partition_of d s e) (view l)))
-    where
-      none : times b [] ≤ 1
-      none = omega (arith, times_none b)
-
-      go : (π : Partition) (x : Found) → times b (collect_by π (view l) kind x).list ≤ 1
-      go π (At f) = gather_in_orderly π (view l) kind b
-      go π Nothing = repair_in_orderly π (view l) b
-
   -- every call, on every image
   pub once : (call : Call) (b : ℕ) → occ b (places (planned d l s call).list) ≤ 1
-  once (create kind) b = (orderly d l s (create kind) (λ q. let z : ◌≡◌ {A = ℕ} 0 1 = cc in omega arith) (λ k q. let z : ◌≡◌ {A = ℕ} 0 1 = cc in omega arith)).once b
-  once (write f r block) b = (orderly d l s (write f r block) (λ q. let z : ◌≡◌ {A = ℕ} 0 1 = cc in omega arith) (λ k q. let z : ◌≡◌ {A = ℕ} 0 1 = cc in omega arith)).once b
-  once (describe f text) b = (orderly d l s (describe f text) (λ q. let z : ◌≡◌ {A = ℕ} 0 1 = cc in omega arith) (λ k q. let z : ◌≡◌ {A = ℕ} 0 1 = cc in omega arith)).once b
-  once (destroy f) b = (orderly d l s (destroy f) (λ q. let z : ◌≡◌ {A = ℕ} 0 1 = cc in omega arith) (λ k q. let z : ◌≡◌ {A = ℕ} 0 1 = cc in omega arith)).once b
+  once (create kind) b = (orderly d l s (create kind) (λ q. let z : ◌≡◌ {A = ℕ} 0 1 = cc in omega arith)).once b
+  once (write f r block) b = (orderly d l s (write f r block) (λ q. let z : ◌≡◌ {A = ℕ} 0 1 = cc in omega arith)).once b
+  once (describe f text) b = (orderly d l s (describe f text) (λ q. let z : ◌≡◌ {A = ℕ} 0 1 = cc in omega arith)).once b
+  once (destroy f) b = (orderly d l s (destroy f) (λ q. let z : ◌≡◌ {A = ℕ} 0 1 = cc in omega arith)).once b
   once repair b = repair_once b
-  once (collect kind) b = collect_once kind b

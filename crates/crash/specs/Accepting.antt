@@ -1,5 +1,5 @@
 -- Check accepts an image exactly if it holds a good partition that is sound; then a call comes to its plan, and a repair of a partition
--- without a malformed candidate, and with an unowned block, plain or collecting, to plain repair's.
+-- without a malformed candidate, and with an unowned block, to repair's.
 use Rattle.std.specs.Prelude.{◌≡◌, ◌≢◌, Bool, true, false, ℕ}
 use Rattle.std.proofs.Math.Path.{refl, ap, ap₂, subst}
 use Rattle.std.proofs.Common.{sym, ◌∙◌, true≢false, ne_eqb}
@@ -15,10 +15,9 @@ use Rattle.volume.specs.declared.Partition.{Partition}
 use Rattle.volume.specs.Frame.{Clean, of_clean}
 use Rattle.volume.specs.Plans.{repair_plan}
 use Rattle.frame.specs.Sound.{sound_clean}
-use Rattle.aims.specs.Done.{collect_plain}
 use Rattle.base.specs.declared.Refusal.TheVariants.{BadBuffer, Unsound, NothingFree, BadName}
 use Rattle.volume.specs.Answers.{partition, lowest_malformed, checked, check_in, check_clean, tallied, in_partition}
-use Rattle.volume.specs.Calls.{Call, create, write, describe, destroy, repair, collect, Planned, refuse, finish, planned, lending, lent_block, lent_text, through, unmarred, repair_in, create_in, write_in, describe_in, destroy_in, collect_in}
+use Rattle.volume.specs.Calls.{Call, create, write, describe, destroy, repair, Planned, refuse, finish, planned, lending, lent_block, lent_text, through, unmarred, repair_in, create_in, write_in, describe_in, destroy_in}
 use Rattle.volume.specs.Reads.{fine_block, fine_text}
 use Rattle.volume.specs.declared.Lent.{Lent}
 use Rattle.volume.specs.declared.Lent.TheVariants.{Fine, WrongLength, WrongName}
@@ -32,7 +31,7 @@ use Rattle.crash.specs.Settled.{Settled, refused, create_settled, describe_settl
 use Rattle.crash.specs.SameFile.{SameFiles}
 use Rattle.crash.specs.Effect.{Effect}
 use Rattle.crash.specs.Held.{Held, placed}
-use Rattle.crash.specs.Statement.{Proper, mends, is_done, Accepted}
+use Rattle.crash.specs.Statement.{Proper, is_done, Accepted}
 
 -- ---- acceptance
 
@@ -93,31 +92,12 @@ module _ {π : Partition} {l : List ℕ} (h : Held π l) where
   block (describe f text) = f
   block (destroy f) = f
   block repair = 0
-  block (collect kind) = 0
-
-  -- repair in the partition, plain and collecting
-  pub repair_here : planned π.drive l π.s repair ≡ unmarred (lowest_malformed π (view l)) (repair_in π (view l))
-  unfolding planned
-  repair_here = ap (λ (x : Part). in_partition refuse x (λ e. let ρ = partition_of π.drive π.s e in unmarred (lowest_malformed ρ (view l)) (repair_in ρ (view l)))) h.good
-
-  pub collect_here : (kind : ℕ) → planned π.drive l π.s (collect kind) ≡ collect_in π (view l) kind
-  unfolding planned
-  collect_here kind = ap (λ (x : Part). in_partition refuse x (λ e. collect_in (partition_of π.drive π.s e) (view l) kind)) h.good
 
   repair_through : Clean π (view l) → planned π.drive l π.s repair ≡ repair_in π (view l)
-  repair_through c = repair_here ∙ ap (λ (m : Found). unmarred m (repair_in π (view l))) (of_clean π (view l) c)
-
-  collect_through : Clean π (view l) → (kind : ℕ) → planned π.drive l π.s (collect kind) ≡ repair_in π (view l)
-  collect_through c kind = collect_here kind ∙ collect_plain π (view l) kind (of_clean π (view l) c)
-
-  -- repair of either kind is plain repair where no candidate is malformed
-  pub mends_is : Clean π (view l) → (c : Call) → mends c ≡ true → planned π.drive l π.s c ≡ planned π.drive l π.s repair
-  mends_is c (create kind) q = absurd (true≢false (sym q))
-  mends_is c (write f r data₀) q = absurd (true≢false (sym q))
-  mends_is c (describe f text) q = absurd (true≢false (sym q))
-  mends_is c (destroy f) q = absurd (true≢false (sym q))
-  mends_is c repair q = refl
-  mends_is c (collect kind) q = collect_through c kind ∙ sym (repair_through c)
+  unfolding planned
+  repair_through c =
+      ap (λ (x : Part). in_partition refuse x (λ e. let ρ = partition_of π.drive π.s e in unmarred (lowest_malformed ρ (view l)) (repair_in ρ (view l)))) h.good
+      ∙ ap (λ (m : Found). unmarred m (repair_in π (view l))) (of_clean π (view l) c)
 
   -- every call
   pub settled : sound π (view l) ≡ true → (c : Call) → Proper c → Settled π (view l) (block c) (Effect π c (view l)) (planned π.drive l π.s c)
@@ -127,7 +107,6 @@ module _ {π : Partition} {l : List ℕ} (h : Held π l) where
   settled ok (describe f text) k = through_settled ok (lent_text text) (λ ρ. describe_in ρ (view l) f (words text)) (λ q. describe_settled π (view l) (placed h) ok f (words text) (words_of 52 text k (fine_text text q).0))
   settled ok (destroy f) k = through_settled ok Fine (λ ρ. destroy_in ρ (view l) f) (λ _. destroy_settled π (view l) (placed h) ok f)
   settled ok repair k = subst (Settled π (view l) 0 (SameFiles π (view l))) (sym (repair_through (sound_clean π (view l) ok))) (repair_settled π (view l) (placed h) ok)
-  settled ok (collect kind) k = subst (Settled π (view l) 0 (SameFiles π (view l))) (sym (collect_through (sound_clean π (view l) ok) kind)) (repair_settled π (view l) (placed h) ok)
 
   -- repair, where no candidate is malformed and a block is not owned
   pub repair_is : Clean π (view l) → unowned π (view l) ≢ [] → planned π.drive l π.s repair ≡ finish 0 (repair_plan π (view l))

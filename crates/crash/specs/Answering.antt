@@ -7,13 +7,13 @@ use Rattle.image.specs.View.{View, Store}
 use Rattle.image.specs.Stores.{stored}
 use Rattle.volume.specs.declared.Partition.{Partition}
 use Rattle.volume.specs.Plans.{Plan, stores}
-use Rattle.volume.specs.Calls.{Call, Planned, planned, decided, Answered}
+use Rattle.volume.specs.Calls.{Call, repair, Planned, planned, decided, Answered}
 use Rattle.volume.specs.declared.Found.TheVariants.{At}
 use Rattle.volume.specs.declared.Answer.{Answer}
 use Rattle.crash.specs.Settled.{Settled, refused, done}
 use Rattle.crash.specs.Accepting.{Sound, accepted_sound, settled}
 use Rattle.crash.specs.Theorem.{whole_kept, survived}
-use Rattle.crash.specs.Statement.{Image, Proper, mends, is_done, Accepted, whole, Repairs, none, again, SameFile, named, Survives}
+use Rattle.crash.specs.Statement.{Image, Proper, is_done, Accepted, whole, Repairs, none, again, SameFile, named, Survives}
 
 module _ (d s : ℕ) where
   -- calls that were let make all their stores turned l into m
@@ -22,10 +22,10 @@ module _ (d s : ℕ) where
     called : {m m' : List ℕ} → Called l m → (c : Call) → Proper c → (limit : ℕ) (a : Answer) → length (planned d m s c).list ≤ limit
         → Answered limit (planned d m s c) m m' a → Called l m'
 
-  -- repairs, plain or collecting, under any limits did
+  -- repairs under any limits did
   pub data Repaired (l : List ℕ) : List ℕ → Type 0 where
     begun : Repaired l l
-    mended : {m m' : List ℕ} → Repaired l m → (c : Call) → mends c ≡ true → Proper c → (limit : ℕ) (a : Answer) → Answered limit (planned d m s c) m m' a → Repaired l m'
+    mended : {m m' : List ℕ} → Repaired l m → (limit : ℕ) (a : Answer) → Answered limit (planned d m s repair) m m' a → Repaired l m'
 
   -- a call on l answered a, and a last repair turned what came of it into l' and answered a'
   pub record Outlives (l : List ℕ) (c : Call) (a : Answer) (l' : List ℕ) (a' : Answer) : Type 0 where
@@ -41,7 +41,7 @@ called_sound {d} {s} y (called {m} {m'} h c p limit a k x) =
 
 repairs_of : {d s : ℕ} {l m : List ℕ} → Repaired d s l m → Repairs d s l m
 repairs_of begun = none
-repairs_of {d} {s} {l} (mended h c q p limit a x) = subst (Repairs d s l) (sym x.image) (again (repairs_of h) c q p limit)
+repairs_of {d} {s} {l} (mended h limit a x) = subst (Repairs d s l) (sym x.image) (again (repairs_of h) limit)
 
 before_in : (P : Plan) → length P.before < length (stores P)
 unfolding stores
@@ -69,32 +69,32 @@ decided_made _ (done a P o) limit = ap (λ (t : Bool). pick t 1 0 + 0) (cut (ltb
 -- a repair at any point answers done, under any limit
 pub never_refused : (d s : ℕ) (l m : List ℕ) → Image l → Accepted d s l → Called d s l m → (c : Call) → Proper c
     → (limit : ℕ) (a : Answer) (m₁ : List ℕ) → Answered limit (planned d m s c) m m₁ a → (l' : List ℕ) → Repaired d s m₁ l'
-    → (c' : Call) → mends c' ≡ true → (limit' : ℕ) (a' : Answer) (l'' : List ℕ) → Answered limit' (planned d l' s c') l' l'' a' → is_done a'.outcome ≡ true
-never_refused d s l m b k h c p limit a m₁ x l' r c' q limit' a' l'' x' =
+    → (limit' : ℕ) (a' : Answer) (l'' : List ℕ) → Answered limit' (planned d l' s repair) l' l'' a' → is_done a'.outcome ≡ true
+never_refused d s l m b k h c p limit a m₁ x l' r limit' a' l'' x' =
     let y = called_sound (accepted_sound d s l b k) h in
-    ap is_done x'.outcome ∙ (survived y.held y.is c p limit l' (subst (λ (z : List ℕ). Repairs d s z l') x.image (repairs_of r)) c' q).not_refused
+    ap is_done x'.outcome ∙ (survived y.held y.is c p limit l' (subst (λ (z : List ℕ). Repairs d s z l') x.image (repairs_of r))).not_refused
 
 -- and one that is let make all its stores ends as demand 3 says
 pub demand_3_in_calls : (d s : ℕ) (l m : List ℕ) → Image l → Accepted d s l → Called d s l m → (c : Call) → Proper c
     → (limit : ℕ) (a : Answer) (m₁ : List ℕ) → Answered limit (planned d m s c) m m₁ a → (l' : List ℕ) → Repaired d s m₁ l'
-    → (c' : Call) → mends c' ≡ true → (limit' : ℕ) (a' : Answer) (l'' : List ℕ) → length (planned d l' s c').list ≤ limit' → Answered limit' (planned d l' s c') l' l'' a'
+    → (limit' : ℕ) (a' : Answer) (l'' : List ℕ) → length (planned d l' s repair).list ≤ limit' → Answered limit' (planned d l' s repair) l' l'' a'
     → Outlives d s m c a l'' a'
-demand_3_in_calls d s l m b k h c p limit a m₁ x l' r c' w limit' a' l'' all x' = record {
-  not_refused = never_refused d s l m b k h c p limit a m₁ x l' r c' w limit' a' l'' x';
+demand_3_in_calls d s l m b k h c p limit a m₁ x l' r limit' a' l'' all x' = record {
+  not_refused = never_refused d s l m b k h c p limit a m₁ x l' r limit' a' l'' x';
   accepted = subst (Accepted d s) (sym end) z.accepted;
   others = λ f q. subst (λ (e : List ℕ). SameFile d s m e f) (sym end) (z.others f q);
   all_or_none = λ f q. subst (λ (e : List ℕ). SameFile d s (pick (ltb 0 (decided (planned d m s c).deciding a.made)) (whole d s m c) m) e f) (sym end)
-      (subst (λ (n : ℕ). SameFile d s (pick (ltb 0 n) (whole d s m c) m) (whole d s l' c') f) (made ∙ ap (decided (planned d m s c).deciding) (sym x.made)) (z.all_or_none f q));
+      (subst (λ (n : ℕ). SameFile d s (pick (ltb 0 n) (whole d s m c) m) (whole d s l' repair) f) (made ∙ ap (decided (planned d m s c).deciding) (sym x.made)) (z.all_or_none f q));
 }
   where
     y : Sound d s m
     y = called_sound (accepted_sound d s l b k) h
 
-    z : Survives d s m c limit l' c'
-    z = survived y.held y.is c p limit l' (subst (λ (e : List ℕ). Repairs d s e l') x.image (repairs_of r)) c' w
+    z : Survives d s m c limit l'
+    z = survived y.held y.is c p limit l' (subst (λ (e : List ℕ). Repairs d s e l') x.image (repairs_of r))
 
-    end : l'' ≡ whole d s l' c'
-    end = x'.image ∙ ap (λ (xs : List Store). stored xs l') (take_all limit' (planned d l' s c').list all)
+    end : l'' ≡ whole d s l' repair
+    end = x'.image ∙ ap (λ (xs : List Store). stored xs l') (take_all limit' (planned d l' s repair).list all)
 
     made : decided (planned d m s c).deciding limit ≡ decided (planned d m s c).deciding (length (take limit (planned d m s c).list))
     made = decided_made (planned d m s c) (settled y.held y.is c p) limit

@@ -16,7 +16,7 @@ use Rattle.volume.specs.Index.{spot_home, present_home}
 use Rattle.volume.specs.Frame.{SameHead, Shape, Clean, kept_len, kept_spot, kept_well_formed}
 use Rattle.volume.specs.Plans.{Plan, stores, free_at, fresh_fib, create_plan, describe_plan, destroy_plan, destroyed, repair_plan}
 use Rattle.volume.specs.Writes.{over, replace_plan}
-use Rattle.volume.specs.Calls.{Call, create, write, describe, destroy, repair, collect}
+use Rattle.volume.specs.Calls.{Call, create, write, describe, destroy, repair}
 use Rattle.frame.specs.Soft.{cand_same}
 use Rattle.frame.specs.Sound.{sound_clean, spare_block}
 use Rattle.frame.specs.Decides.{Good}
@@ -61,7 +61,6 @@ Effect π (write f r block) v w = Written π v w f r (words block)
 Effect π (describe f text) v w = Described π v w f (words text)
 Effect π (destroy f) v w = is_file π w f ≡ false
 Effect π repair v w = SameFiles π v w
-Effect π (collect kind) v w = SameFiles π v w
 
 module _ (π : Partition) (low : π.s < π.e) (pos : 0 < π.s) (v : View) (ok : sound π v ≡ true) where
   c : Clean π v

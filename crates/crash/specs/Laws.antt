@@ -14,7 +14,6 @@ use Rattle.volume.specs.declared.Partition.{Partition}
 use Rattle.volume.specs.Frame.{Clean, of_clean, clean_of}
 use Rattle.volume.specs.Plans.{Plan, repair_stores, repair_plan}
 use Rattle.volume.specs.Writes.{needs}
-use Rattle.volume.specs.Collect as bad
 use Rattle.frame.specs.Sound.{sound_clean, spare_block}
 use Rattle.std.proofs.Math.Seq.{take-length}
 use Rattle.base.specs.declared.Refusal.{Refusal}
@@ -22,7 +21,7 @@ use Rattle.base.specs.declared.Refusal.TheVariants.{BadBuffer, Unsound, NothingF
 use Rattle.volume.specs.Words.{number_free_at}
 use Rattle.volume.specs.Keys.{reach}
 use Rattle.volume.specs.Answers.{end_of, partition, lowest_malformed, checked, check_in, check_clean, tallied, in_partition}
-use Rattle.volume.specs.Calls.{Call, create, write, describe, destroy, repair, collect, Planned, refuse, finish, finish2, planned, lending, lent_block, lent_text, through, unmarred, create_in, append_in, write_in, describe_in, destroy_in, repair_in, gather_in, collect_by, collect_in, room}
+use Rattle.volume.specs.Calls.{Call, create, write, describe, destroy, repair, Planned, refuse, finish, planned, lending, lent_block, lent_text, through, unmarred, create_in, append_in, write_in, describe_in, destroy_in, repair_in, room}
 use Rattle.volume.specs.declared.Lent.{Lent}
 use Rattle.volume.specs.declared.Lent.TheVariants.{Fine, WrongLength, WrongName}
 use Rattle.volume.specs.declared.Found.{Found}
@@ -39,7 +38,7 @@ use Rattle.crash.specs.Effect.{Effect}
 use Rattle.frame.specs.Needed.{needed, owned_needed}
 use Rattle.crash.specs.Needed.{free_unowned}
 use Rattle.crash.specs.Needed as counts
-use Rattle.crash.specs.Statement.{Repairs, Image, Proper, mends, is_done, Accepted, stopped, whole, here}
+use Rattle.crash.specs.Statement.{Repairs, Image, Proper, is_done, Accepted, stopped, whole, here}
 use Rattle.crash.specs.Theorem.{whole_kept, survivor_held, whole_view, stopped_held, cut_clean, mended_held, mended_view, mended_length}
 use Rattle.volume.specs.Reads.{whole_records}
 
@@ -53,15 +52,15 @@ whole_accepted d s l b a c p = let y = whole_kept (accepted_sound d s l b a) c p
 pub whole_image : (d s : ℕ) (l : List ℕ) → Image l → Accepted d s l → (c : Call) → Proper c → Image (whole d s l c)
 whole_image d s l b a c p = (whole_kept (accepted_sound d s l b a) c p).held.bytes
 
-pub survivor_image : (d s : ℕ) (l : List ℕ) → Image l → Accepted d s l → (c : Call) → Proper c → (k : ℕ) → (l' : List ℕ) → Repairs d s (stopped d s l c k) l' → (c' : Call) → mends c' ≡ true → Image (whole d s l' c')
-survivor_image d s l b a c p k l' r c' q = let y = accepted_sound d s l b a in (survivor_held y.held y.is c p k l' r c' q).bytes
+pub survivor_image : (d s : ℕ) (l : List ℕ) → Image l → Accepted d s l → (c : Call) → Proper c → (k : ℕ) → (l' : List ℕ) → Repairs d s (stopped d s l c k) l' → Image (whole d s l' repair)
+survivor_image d s l b a c p k l' r = let y = accepted_sound d s l b a in (survivor_held y.held y.is c p k l' r).bytes
 
 -- ---- a call that is refused leaves the image alone: any image, any arguments, any limit
 
 -- what a call comes to is a refusal, or a plan
 data Comes : Planned → Type 0 where
   refuses : (y : Refusal) → Comes (refuse y)
-  does : (a b : ℕ) (P : Plan) → Comes (finish2 a b P)
+  does : (a : ℕ) (P : Plan) → Comes (finish a P)
 
 either : (t : Bool) {x y : Planned} → Comes x → Comes y → Comes (pick t x y)
 either true h k = h
@@ -86,20 +85,15 @@ through_comes d l s lent k h = part_comes (partition d l s) _ (λ e. lending_com
     (unmarred_comes (lowest_malformed (partition_of d s e) (view l)) _ (either (sound (partition_of d s e) (view l)) (h (partition_of d s e)) (refuses Unsound))))
 
 comes : (d s : ℕ) (l : List ℕ) (c : Call) → Comes (planned d l s c)
-unfolding planned create_in append_in write_in describe_in destroy_in repair_in gather_in collect_in
-comes d s l (create kind) = through_comes d l s Fine _ (λ π. either (leb (room π (view l)) 1) (refuses Full) (does _ _ _))
+unfolding planned create_in append_in write_in describe_in destroy_in repair_in
+comes d s l (create kind) = through_comes d l s Fine _ (λ π. either (leb (room π (view l)) 1) (refuses Full) (does _ _))
 comes d s l (write f r block) = through_comes d l s (lent_block block) _ (λ π. either (candidate π (view l) f)
-    (either (ltb r reach) (either (ltb r (len (view l) f)) (does _ _ _) (either (eqb r (len (view l) f)) (either (leb (room π (view l)) (needs π (view l) f r)) (refuses Full) (does _ _ _)) (refuses BadBlock))) (refuses BadBlock))
+    (either (ltb r reach) (either (ltb r (len (view l) f)) (does _ _) (either (eqb r (len (view l) f)) (either (leb (room π (view l)) (needs π (view l) f r)) (refuses Full) (does _ _)) (refuses BadBlock))) (refuses BadBlock))
     (refuses NoCandidate))
-comes d s l (describe f text) = through_comes d l s (lent_text text) _ (λ π. either (candidate π (view l) f) (does _ _ _) (refuses NoCandidate))
-comes d s l (destroy f) = through_comes d l s Fine _ (λ π. either (candidate π (view l) f) (does _ _ _) (refuses NoCandidate))
+comes d s l (describe f text) = through_comes d l s (lent_text text) _ (λ π. either (candidate π (view l) f) (does _ _) (refuses NoCandidate))
+comes d s l (destroy f) = through_comes d l s Fine _ (λ π. either (candidate π (view l) f) (does _ _) (refuses NoCandidate))
 comes d s l repair = part_comes (partition d l s) _ (λ e. unmarred_comes (lowest_malformed (partition_of d s e) (view l)) _
-    (either (eqb (length (unowned (partition_of d s e) (view l))) 0) (refuses NothingFree) (does _ _ _)))
-comes d s l (collect kind) = part_comes (partition d l s) _ (λ e. collects (partition_of d s e) (lowest_malformed (partition_of d s e) (view l)))
-  where
-    collects : (π : Partition) (m : Found) → Comes (collect_by π (view l) kind m)
-    collects π (At f) = either (ltb (bad.needed (length (bad.collected π (view l)))) (length (bad.others π (view l)))) (does _ _ _) (refuses NothingFree)
-    collects π Nothing = either (eqb (length (unowned π (view l))) 0) (refuses NothingFree) (does _ _ _)
+    (either (eqb (length (unowned (partition_of d s e) (view l))) 0) (refuses NothingFree) (does _ _)))
 
 pub refused_alone : (d s : ℕ) (l : List ℕ) (c : Call) → is_done (planned d l s c).outcome ≡ false → (k : ℕ) → stopped d s l c k ≡ l
 unfolding stored
@@ -111,7 +105,7 @@ refused_alone d s l c h k = go (planned d l s c) (comes d s l c) h
 
     go : (x : Planned) → Comes x → is_done x.outcome ≡ false → stored (take k x.list) l ≡ l
     go _ (refuses y) q = empty k
-    go _ (does a b P) q = absurd (true≢false q)
+    go _ (does a P) q = absurd (true≢false q)
 
 -- ---- a call that is done on a sound partition has its effect on the file that it names
 

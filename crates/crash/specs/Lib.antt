@@ -1,13 +1,10 @@
--- Read Statement and Collecting first, then Theorem, BadFile, Laws and Answering; the other rooms are the proof, from the ground up.
+-- Read Statement first, then Theorem, Laws and Answering; the other rooms are the proof, from the ground up.
 
 -- the statement, its proof, the laws beside it, and the same in the calls' own terms
 pub mod Statement
 pub mod Theorem
 pub mod Laws
 pub mod Answering
--- the bad file: the statements, and their proof
-pub mod Collecting
-pub mod BadFile
 -- a law of repair: an all-zero partition becomes a fresh one
 pub mod Zeroed
 -- files in two views, a run of stores that is cut, what makes a partition sound, what its files need, and lawful stores

@@ -1,10 +1,10 @@
 -- Demand 3, as one statement about images.
 --
 -- Take a partition that check accepts and any sequence of changing calls on it, each whole or refused, and then one more, stopped after
--- any number k of its stores; a store is whole or absent. Repair, plain or collecting, itself stopped and started again any number of
--- times, in either way each time, and then run to its end, is never refused, and check accepts the result. Every file but the one that the
--- stopped call names or creates has the same blocks, bytes, kind and description as before that call. That one is wholly as before it, or
--- wholly as after the whole call, by whether the deciding store was made; whether a file is there counts.
+-- any number k of its stores; a store is whole or absent. Repair, itself stopped and started again any number of times and then run to its
+-- end, is never refused, and check accepts the result. Every file but the one that the stopped call names or creates has the same blocks,
+-- bytes, kind and description as before that call. That one is wholly as before it, or wholly as after the whole call, by whether the
+-- deciding store was made; whether a file is there counts.
 use Rattle.std.specs.Prelude.{◌≡◌, ◌≢◌, Bool, true, false, List, [], ◌∷◌, ℕ, ◌<◌, ltb, take}
 use Rattle.base.specs.Tests.{pick}
 use Rattle.image.specs.Image.{view, Bytes}
@@ -13,7 +13,7 @@ use Rattle.volume.specs.Words.{data_at, kind_at}
 use Rattle.volume.specs.Files.{partition_of, is_file, len, present, spot, name, free_head}
 use Rattle.volume.specs.declared.Partition.{Partition}
 use Rattle.volume.specs.Answers.{end_of, checked}
-use Rattle.volume.specs.Calls.{Call, create, write, describe, destroy, repair, collect, planned, decided}
+use Rattle.volume.specs.Calls.{Call, create, write, describe, destroy, repair, planned, decided}
 use Rattle.volume.specs.declared.Found.{Found}
 use Rattle.volume.specs.declared.Found.TheVariants.{At, Nothing}
 use Rattle.volume.specs.declared.Outcome.{Outcome}
@@ -29,20 +29,10 @@ Proper (write f r block) = Bytes block
 Proper (describe f text) = Bytes text
 Proper (destroy f) = Unit {0}
 Proper repair = Unit {0}
-Proper (collect kind) = kind < 65536
 
 abbrev pub AllProper : List Call → Type 0
 AllProper [] = Unit {0}
 AllProper (c ∷ cs) = Proper c × AllProper cs
-
--- repair, plain or collecting
-abbrev pub mends : Call → Bool
-mends (create kind) = false
-mends (write f r block) = false
-mends (describe f text) = false
-mends (destroy f) = false
-mends repair = true
-mends (collect kind) = true
 
 -- the answer is that of a call that was done
 abbrev pub is_done : Outcome → Bool
@@ -67,10 +57,10 @@ module _ (d s : ℕ) where
   runs l [] = l
   runs l (c ∷ cs) = runs (whole l c) cs
 
-  -- the images that repairs make of l, plain or collecting, each stopped after some k of its stores, or whole if it has no more
+  -- the images that repairs, each stopped somewhere, make of l
   pub data Repairs (l : List ℕ) : List ℕ → Type 0 where
     none : Repairs l l
-    again : {m : List ℕ} → Repairs l m → (c : Call) → mends c ≡ true → Proper c → (k : ℕ) → Repairs l (stopped m c k)
+    again : {m : List ℕ} → Repairs l m → (k : ℕ) → Repairs l (stopped m repair k)
 
   -- the partition as the image's PIB has it
   abbrev pub here : List ℕ → Partition
@@ -101,18 +91,17 @@ module _ (d s : ℕ) where
   named l (describe f text) = At f
   named l (destroy f) = At f
   named l repair = Nothing
-  named l (collect kind) = Nothing
 
-  -- call c was stopped after k stores of l, and stopped repairs made l' of that: what the next repair c', run to its end, gives
-  pub record Survives (l : List ℕ) (c : Call) (k : ℕ) (l' : List ℕ) (c' : Call) : Type 0 where
-    pub not_refused : is_done (planned d l' s c').outcome ≡ true
-    pub accepted : Accepted (whole l' c')
-    pub others : (f : ℕ) → named l c ≢ At f → SameFile l (whole l' c') f
-    pub all_or_none : (f : ℕ) → named l c ≡ At f → SameFile (pick (ltb 0 (decided (planned d l s c).deciding k)) (whole l c) l) (whole l' c') f
+  -- call c was stopped after k stores of l, and stopped repairs made l' of that: what the next repair, run to its end, gives
+  pub record Survives (l : List ℕ) (c : Call) (k : ℕ) (l' : List ℕ) : Type 0 where
+    pub not_refused : is_done (planned d l' s repair).outcome ≡ true
+    pub accepted : Accepted (whole l' repair)
+    pub others : (f : ℕ) → named l c ≢ At f → SameFile l (whole l' repair) f
+    pub all_or_none : (f : ℕ) → named l c ≡ At f → SameFile (pick (ltb 0 (decided (planned d l s c).deciding k)) (whole l c) l) (whole l' repair) f
 
 -- demand 3
 abbrev pub Demand3 : Type 0
 Demand3 = (d s : ℕ) (l : List ℕ) → Image l → Accepted d s l
     → (cs : List Call) → AllProper cs → (c : Call) → Proper c → (k : ℕ)
-    → (l' : List ℕ) → Repairs d s (stopped d s (runs d s l cs) c k) l' → (c' : Call) → mends c' ≡ true
-    → Survives d s (runs d s l cs) c k l' c'
+    → (l' : List ℕ) → Repairs d s (stopped d s (runs d s l cs) c k) l'
+    → Survives d s (runs d s l cs) c k l'

@@ -6,13 +6,12 @@ use Rattle.base.specs.Tests.{pick}
 use Rattle.base.specs.Laws.{never}
 use Rattle.image.specs.View.{View, Store, after}
 use Rattle.image.specs.Image.{view}
-use Rattle.image.specs.Stores.{stored}
 use Rattle.volume.specs.Files.{partition_of, unowned, present, spot, name, is_file, sound}
 use Rattle.volume.specs.declared.Partition.{Partition}
 use Rattle.volume.specs.Frame.{Clean}
 use Rattle.volume.specs.Plans.{repair_stores}
 use Rattle.frame.specs.Turn.{Each, each_take}
-use Rattle.volume.specs.Calls.{Call, create, write, describe, destroy, repair, collect, Planned, planned, decided}
+use Rattle.volume.specs.Calls.{Call, create, write, describe, destroy, repair, Planned, planned, decided}
 use Rattle.volume.specs.declared.Found.TheVariants.{At}
 use Rattle.crash.specs.SameFile as views
 use Rattle.crash.specs.SameFile.{file_trans, file_refl, file_same, same_bytes}
@@ -24,8 +23,8 @@ use Rattle.crash.specs.Settled.{Settled, refused, done}
 use Rattle.crash.specs.Stopped.{whole_sound, whole_others, stopped_survives}
 use Rattle.crash.specs.Effect.{Effect}
 use Rattle.crash.specs.Held.{Held, placed, end_is, view_after, length_after, held_after}
-use Rattle.crash.specs.Accepting.{Sound, sound_accepted, accepted_sound, block, settled, repair_is, mends_is}
-use Rattle.crash.specs.Statement.{Proper, AllProper, mends, is_done, Accepted, stopped, whole, runs, Repairs, none, again, here, SameContent, SameFile, named, Survives, Demand3}
+use Rattle.crash.specs.Accepting.{Sound, sound_accepted, accepted_sound, block, settled, repair_is}
+use Rattle.crash.specs.Statement.{Proper, AllProper, is_done, stopped, whole, runs, Repairs, none, again, here, SameContent, SameFile, named, Survives, Demand3}
 use Rattle.volume.specs.Reads.{candidate_in}
 use Rattle.volume.specs.Index.{file_candidate}
 
@@ -106,13 +105,13 @@ pub record Reached (π : Partition) (v : View) (l' : List ℕ) : Type 0 where
 
 pub reached : {π : Partition} {l l' : List ℕ} (h : Held π l) → Clean π (view l) → unowned π (view l) ≢ [] → Repairs π.drive π.s l l' → Reached π (view l) l'
 reached h c n none = record { held = h; repairs = cuts.none }
-reached {π} {l} h c n (again {m} r i q p k) = go (reached h c n r)
+reached {π} {l} h c n (again {m} r k) = go (reached h c n r)
   where
-    go : Reached π (view l) m → Reached π (view l) (stopped π.drive π.s m i k)
-    go x = subst (λ (p : Planned). Reached π (view l) (stored (take k p.list) m)) (sym (mends_is x.held y.clean i q)) (record {
+    go : Reached π (view l) m → Reached π (view l) (stopped π.drive π.s m repair k)
+    go x = record {
       held = cut_held x.held y.clean y.spare k;
       repairs = subst (cuts.Repairs π (view l)) (sym (cut_view x.held y.clean y.spare k)) (cuts.more x.repairs k);
-    })
+    }
       where
         y : cuts.Survives π (view l) (view m)
         y = survives π (placed h).low (placed h).pos (view l) c n x.repairs
@@ -162,7 +161,6 @@ module _ {π : Partition} {l : List ℕ} (h : Held π l) (ok : sound π (view l)
       hit (describe g t) n z = absurd (n (ap At (sym z)))
       hit (destroy g) n z = absurd (n (ap At (sym z)))
       hit repair n z = z
-      hit (collect kind) n z = z
 
       go : (t : Bool) → eqb f (block h c) ≡ t → views.SameFile π (view l) (after steps (view l)) f
       go true q = subst (views.SameFile π (view l) (after steps (view l))) (sym (hit c n (eqb-true f (block h c) q))) (no_zero π (view l) (after steps (view l)))
@@ -182,14 +180,14 @@ module _ {π : Partition} {l : List ℕ} (h : Held π l) (ok : sound π (view l)
     cut_spare = (outlives cuts.none).spare
 
     -- what the last repair leaves holds the partition still
-    pub survivor_held : (l' : List ℕ) → Repairs π.drive π.s (stopped π.drive π.s l c n) l' → (c' : Call) → mends c' ≡ true → Held π (whole π.drive π.s l' c')
-    survivor_held l' r c' q =
+    pub survivor_held : (l' : List ℕ) → Repairs π.drive π.s (stopped π.drive π.s l c n) l' → Held π (whole π.drive π.s l' repair)
+    survivor_held l' r =
         let x = reached (stopped_held n) cut_clean cut_spare r in
         let y = outlives x.repairs in
-        subst (λ (p : Planned). Held π (stored p.list l')) (sym (mends_is x.held y.clean c' q)) (mended_held x.held y.clean y.spare)
+        mended_held x.held y.clean y.spare
 
-    survived_plain : (l' : List ℕ) → Repairs π.drive π.s (stopped π.drive π.s l c n) l' → Survives π.drive π.s l c n l' repair
-    survived_plain l' r = record {
+    pub survived : (l' : List ℕ) → Repairs π.drive π.s (stopped π.drive π.s l c n) l' → Survives π.drive π.s l c n l'
+    survived l' r = record {
       not_refused = repair_done hu y.clean y.spare;
       accepted = sound_accepted hm (ap (sound π) vm ∙ y.sound);
       others = λ f q. same_file h hm f (subst (λ (w : View). views.SameFile π (view l) w f) (sym vm) (file_trans (part (ltb 0 (decided (planned π.drive l π.s c).deciding n)) f q) (y.files f)));
@@ -219,21 +217,6 @@ module _ {π : Partition} {l : List ℕ} (h : Held π l) (ok : sound π (view l)
         choose true f q = same_file whole_held hm f (subst (λ (w : View). views.SameFile π w (view (whole π.drive π.s l' repair)) f) (sym whole_view) (subst (λ (w : View). views.SameFile π (after steps (view l)) w f) (sym vm) q))
         choose false f q = same_file h hm f (subst (λ (w : View). views.SameFile π (view l) w f) (sym vm) q)
 
-    -- the last repair is of either kind
-    pub survived : (l' : List ℕ) → Repairs π.drive π.s (stopped π.drive π.s l c n) l' → (c' : Call) → mends c' ≡ true → Survives π.drive π.s l c n l' c'
-    survived l' r c' q = record {
-      not_refused = subst (λ (p : Planned). is_done p.outcome ≡ true) e y.not_refused;
-      accepted = subst (λ (p : Planned). Accepted π.drive π.s (stored p.list l')) e y.accepted;
-      others = λ f m. subst (λ (p : Planned). SameFile π.drive π.s l (stored p.list l') f) e (y.others f m);
-      all_or_none = λ f m. subst (λ (p : Planned). SameFile π.drive π.s (pick (ltb 0 (decided (planned π.drive l π.s c).deciding n)) (whole π.drive π.s l c) l) (stored p.list l') f) e (y.all_or_none f m);
-    }
-      where
-        y : Survives π.drive π.s l c n l' repair
-        y = survived_plain l' r
-
-        e : planned π.drive l' π.s repair ≡ planned π.drive l' π.s c'
-        e = let x = reached (stopped_held n) cut_clean cut_spare r in sym (mends_is x.held (outlives x.repairs).clean c' q)
-
 -- ---- whole calls, one after another
 
 pub whole_kept : {d s : ℕ} {l : List ℕ} → Sound d s l → (c : Call) → Proper c → Sound d s (whole d s l c)
@@ -247,6 +230,6 @@ runs_kept l y (c ∷ cs) k = runs_kept _ (whole_kept y c k.0) cs k.1
 -- ---- demand 3
 
 pub demand_3 : Demand3
-demand_3 d s l b a cs ks c p k l' r c' q =
+demand_3 d s l b a cs ks c p k l' r =
     let y = runs_kept l (accepted_sound d s l b a) cs ks in
-    survived y.held y.is c p k l' r c' q
+    survived y.held y.is c p k l' r

@@ -1,18 +1,15 @@
 -- The records that repair stores are words that fit.
-use Rattle.std.specs.Prelude.{◌≡◌, ◌≢◌, Bool, ltb, length}
+use Rattle.std.specs.Prelude.{◌≡◌, ◌≢◌, Bool, not, ℕ, suc, ◌-◌, ◌≤◌, ◌<◌, ltb}
 use Rattle.std.proofs.Math.Path.{refl, subst}
 use Rattle.std.proofs.Common.{sym}
-use Rattle.std.proofs.Math.Bool.{true, false, not}
-use mathlib.Core.List.{List}
-use Prim.Native.Nat.{ℕ, zero, suc, ◌+◌, ◌-◌, ◌≤◌, ◌<◌}
+use Rattle.std.proofs.Math.Bool.{true, false}
 use native.Mathlib.Omega.{arith}
 use Rattle.std.proofs.Math.Dec.{eqb}
 use Rattle.std.proofs.lemmas.Bool.{eqb-false}
-use Rattle.base.specs.Tests.{pick, tab_from}
+use Rattle.base.specs.Tests.{pick}
 use Rattle.drive.specs.Address.{pda, or_nil}
 use Rattle.drive.specs.Fits.{pda_small}
-use Rattle.drive.specs.Names.{address_small}
-use Rattle.image.specs.View.{View, pair}
+use Rattle.image.specs.View.{View}
 use Rattle.image.specs.Stores.{Fits}
 use Rattle.volume.specs.Keys.{home}
 use Rattle.volume.specs.Files.{within, len, spot, present, file_of, key, owned, unowned, above, below, link}
@@ -20,9 +17,8 @@ use Rattle.volume.specs.declared.Partition.{Partition}
 use Rattle.volume.specs.Reads.{inside_of}
 use Rattle.volume.specs.Index.{own, member, file_candidate, file_formed}
 use Rattle.volume.specs.Order.{above_next, below_prev}
-use Rattle.volume.specs.Plans.{trimmed, shaped, content, relinked, freed, repaired, repaired_pib, repair_plan, repair_stores, st, stores}
-use Rattle.frame.specs.Chain.{above_in, below_in, within_those, head_in, last_in, length_most}
-use Rattle.frame.specs.Turn.{Each, each_append}
+use Rattle.volume.specs.Plans.{trimmed, shaped, content, relinked, freed, repaired}
+use Rattle.frame.specs.Chain.{above_in, below_in, within_those}
 use Rattle.frame.specs.Fitting.{put_fits, put2_fits, trimmed_fits}
 use Rattle.frame.specs.Repair.{repaired_mine, repaired_free}
 
@@ -79,31 +75,3 @@ module _ (π : Partition) (v : View) (few : π.e < 69552) where
           subst Fits (sym (repaired_free π v (unowned π v) b o))
           (put2_fits 0 0 (omega arith) (omega arith) (put_fits 3 _ (omega arith) (omega arith)
           (put2_fits 4 _ (omega arith) (or_small _ (above_in π b (unowned π v) w)) (put2_fits 6 _ (omega arith) (or_small _ (below_in π b (unowned π v) w)) h))))
-
-  -- the PIB's
-  pub pib_fits : π.s < π.e → Fits (v π.s) → Fits (repaired_pib π v (unowned π v))
-  unfolding repaired_pib unowned
-  pib_fits order h =
-      put2_fits 8 _ (omega arith) (address_small π.drive _ _ (word 8) (omega (arith, few, head_in π fr w)))
-      (put2_fits 10 _ (omega arith) (address_small π.drive _ _ (word 10) (omega (arith, few, last_in π 0 fr (omega arith) w)))
-      (put2_fits 12 (length fr) (omega arith) (omega (arith, length_most (λ b. not (owned π v b)) (suc π.s) (π.e - π.s), few)) h))
-    where
-      fr : List ℕ
-      fr = unowned π v
-
-      w : within π (unowned π v) ≡ true
-      w = unowned_in π v order
-
-      word : (i : ℕ) → pair v π.s i < 4294967296
-      word i = omega (arith, h.small i, h.small (i + 1))
-
-  -- every record that repair stores
-  tab_fits : π.s < π.e → ((b : ℕ) → Fits (v b)) → (i k : ℕ) → Each (λ _ r. Fits r) (tab_from i k (λ b. st b (repaired π v (unowned π v) b)))
-  unfolding tab_from
-  tab_fits order h i zero = tt
-  tab_fits order h i (suc k) = (repaired_fits order i (h i), tab_fits order h (suc i) k)
-
-  pub stores_fit : π.s < π.e → ((b : ℕ) → Fits (v b)) → Each (λ _ r. Fits r) (repair_stores π v)
-  unfolding stores repair_plan
-  stores_fit order h =
-      each_append (λ _ r. Fits r) (tab_from (suc π.s) (π.e - π.s) (λ b. st b (repaired π v (unowned π v) b))) _ (tab_fits order h (suc π.s) (π.e - π.s)) (pib_fits order (h π.s), tt)

@@ -1,13 +1,10 @@
 -- Lists of blocks joined, and chained ones: the end of one, with the same links, with another block before the first, and two joined.
-use Rattle.std.specs.Prelude.{◌≡◌, ◌≢◌, Bool, length}
+use Rattle.std.specs.Prelude.{◌≡◌, ◌≢◌, true, ℕ, ◌≤◌, ◌<◌, length}
 use Rattle.std.proofs.Math.Path.{refl, ap}
-use Rattle.std.proofs.Common.{sym, ◌∙◌, subst, eq-eqb}
+use Rattle.std.proofs.Common.{sym, ◌∙◌, subst, arith, eq-eqb}
 use mathlib.Core.List.{List, [], ◌∷◌, ◌++◌}
-use Rattle.std.proofs.Math.Bool.{true, false}
-use Prim.Native.Nat.{ℕ, zero, suc, ◌+◌, ◌≤◌, ◌<◌}
-use native.Mathlib.Omega.{arith}
 use Rattle.std.proofs.Math.Dec.{eqb}
-use Rattle.base.specs.Tests.{pick, those, head_of, last_of, occ}
+use Rattle.base.specs.Tests.{head_of, last_of, occ}
 use Rattle.base.specs.Laws.{both_left, both_right, both_of}
 use Rattle.drive.specs.Address.{or_nil}
 use Rattle.image.specs.View.{View, pair}
@@ -79,26 +76,3 @@ module _ (π : Partition) (v W : View) where
       (both_of (ap (λ (a : ℕ). eqb a (or_nil π.drive z)) (n y o ne) ∙ both_left _ _ (both_right _ _ h))
       (chained_join y t (z ∷ l) m (omega arith) q (λ b. omega (arith, d b, occ_more b y (z ∷ l))) (λ b i. p b (omega (arith, i, occ_more b y (z ∷ l)))) (λ b i. n b (omega (arith, i, occ_more b y (z ∷ l)))) e k
       (both_right _ _ (both_right _ _ h))))
-
--- ---- those of a row, from its start and at its end
-
-module _ (P : ℕ → Bool) where
-  pub those_on : (i k : ℕ) → P i ≡ true → those i (suc k) P ≡ i ∷ those (suc i) k P
-  unfolding those
-  those_on i k q = ap (λ (t : Bool). pick t (i ∷ those (suc i) k P) (those (suc i) k P)) q
-
-  pub those_off : (i k : ℕ) → P i ≡ false → those i (suc k) P ≡ those (suc i) k P
-  unfolding those
-  those_off i k q = ap (λ (t : Bool). pick t (i ∷ those (suc i) k P) (those (suc i) k P)) q
-
-  -- one more at the end
-  pub those_snoc : (i k : ℕ) → those i (suc k) P ≡ those i k P ++ pick (P (i + k)) ((i + k) ∷ []) []
-  unfolding those
-  those_snoc i zero = ap (λ (n : ℕ). pick (P n) (n ∷ []) []) (let z : i ≡ i + 0 = omega arith in z)
-  those_snoc i (suc k) =
-      go (P i) (those_snoc (suc i) k ∙ ap (λ (n : ℕ). those (suc i) k P ++ pick (P n) (n ∷ []) []) (let z : suc i + k ≡ i + suc k = omega arith in z))
-    where
-      go : (t : Bool) → those (suc i) (suc k) P ≡ those (suc i) k P ++ pick (P (i + suc k)) ((i + suc k) ∷ []) []
-          → pick t (i ∷ those (suc i) (suc k) P) (those (suc i) (suc k) P) ≡ pick t (i ∷ those (suc i) k P) (those (suc i) k P) ++ pick (P (i + suc k)) ((i + suc k) ∷ []) []
-      go true ih = ap (λ (xs : List ℕ). i ∷ xs) ih
-      go false ih = ih

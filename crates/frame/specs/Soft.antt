@@ -11,7 +11,7 @@ use Rattle.base.specs.Laws.{every_at, iff_eq}
 use Rattle.drive.specs.Address.{pda}
 use Rattle.drive.specs.Laws.{pda_pos}
 use Rattle.image.specs.View.{View, Rec, pair}
-use Rattle.volume.specs.Words.{serial_at, relative_at, fib_number}
+use Rattle.volume.specs.Words.{serial_at}
 use Rattle.volume.specs.Keys.{home, up, slot, child, first}
 use Rattle.volume.specs.KeyLaws.{slot_fib, slot_low, child_slot, low_pos, asked_low, asked_high}
 use Rattle.volume.specs.Files.{inside, candidate, len, spot, present, well_formed, file_of, key, owned}
@@ -61,10 +61,6 @@ module _ (π : Partition) where
   pub cand_serial : (v : View) (f : ℕ) → candidate π v f ≡ true → pair v f serial_at ≡ pda π.drive f
   unfolding candidate
   cand_serial v f h = eqb-true _ _ (every_at _ h 1)
-
-  pub cand_rel : (v : View) (f : ℕ) → candidate π v f ≡ true → v f relative_at ≡ fib_number
-  unfolding candidate
-  cand_rel v f h = eqb-true _ _ (every_at _ h 2)
 
 -- the words of a FIB that soundness alone asks about: none
 unfoldable pub tally_word : ℕ → Bool

@@ -112,7 +112,7 @@ pub fn is_file(img: &[u8], p: Partition, f: usize) -> bool
 }
 
 // Whether f is a malformed candidate.
-pub fn is_malformed(img: &[u8], p: Partition, f: usize) -> bool
+fn is_malformed(img: &[u8], p: Partition, f: usize) -> bool
     requires { Lies p img.now }
     ensures { result ≡ is_malformed p (view img.now) f }
 {

@@ -28,7 +28,6 @@ use Rattle.volume.specs.Steps.{both_no, both_no_2}
 use Rattle.inspect.specs.Parts.{Opened}
 use Rattle.inspect.proofs.Laws.{wf_opened, opened_few}
 use Rattle.volume.specs.Frame.{clean_of}
-use Rattle.links.specs.Held.{held}
 
 -- a candidate's index can be read
 pub opened : {π : Partition} {l : List ℕ} → Lies π l → Unmarred π (view l) → (f : ℕ) → candidate π (view l) f ≡ true → Opened π l f
@@ -83,7 +82,7 @@ pub tells_equal : (r : Bool) (x y : ℕ) → (r ≡ true → x ≡ y) → (r ≡
 tells_equal true x y g h = sym (eq-eqb x y (g refl))
 tells_equal false x y g h = sym (ne_eqb x y (h refl))
 
--- ---- the ways through `owned`, which reads the serial x and the file f whose PDA it is
+-- ---- the ways through `owned`, which reads the serial x, the file f whose PDA it is, and the key k
 
 module _ (π : Partition) (v : View) (b x : ℕ) (hx : x ≡ pair v b serial_at) where
   -- a serial that is not the PDA of the block that is guessed from it
@@ -110,22 +109,15 @@ module _ (π : Partition) (v : View) (b x : ℕ) (hx : x ≡ pair v b serial_at)
       file_is : file_of π v b ≡ f
       file_is = sym (that.0 ∙ ap (pda_block π.drive) hx)
 
-      -- a file owns what it holds
-      pub owned_held : is_file π v f ≡ true → held π v f b ≡ owned π v b
-      unfolding owned held both
-      owned_held hc = rw (file_is, eq-eqb _ _ (sym hx ∙ that.1), hc, both)
+      module _ (k : ℕ) (hk : k ≡ key_of (v b relative_at)) where
+        key_is : key v b ≡ k
+        unfolding key
+        key_is = sym hk
 
--- ---- the ways through `held`
+        pub owned_absent : present π v f k ≡ false → false ≡ owned π v b
+        unfolding owned
+        owned_absent h = sym (both_no_2 _ _ (both_no_2 _ _ (both_no _ _ (rw (file_is, key_is) h))))
 
-module _ (π : Partition) (v : View) (f b k : ℕ) (hk : k ≡ key_of (v b relative_at)) where
-  key_is : key v b ≡ k
-  unfolding key
-  key_is = sym hk
-
-  pub held_absent : present π v f k ≡ false → false ≡ held π v f b
-  unfolding held
-  held_absent h = sym (both_no _ _ (rw key_is h))
-
-  pub held_here : {q : ℕ} → present π v f k ≡ true → q ≡ spot π v f k → eqb q b ≡ held π v f b
-  unfolding held both
-  held_here hp hq = rw (key_is, hp, hq, both)
+        pub owned_here : {q : ℕ} → is_file π v f ≡ true → present π v f k ≡ true → q ≡ spot π v f k → eqb q b ≡ owned π v b
+        unfolding owned both
+        owned_here hc hp hq = rw (file_is, key_is, eq-eqb _ _ (sym hx ∙ that.1), hc, hp, hq, both)

@@ -10,7 +10,6 @@ ghost use Rattle.volume.specs.Files.{owned, len, present, above, below, link, li
 ghost use Rattle.volume.specs.Answers.{Unmarred};
 ghost use Rattle.volume.specs.Reads.{Lies};
 ghost use Rattle.inspect.specs.Parts.{Opened};
-ghost use Rattle.links.specs.Held.{held};
 
 use volume::Partition;
 use volume::words::{NEXT, PREVIOUS, RELATIVE, SERIAL, SLOTS};
@@ -21,19 +20,6 @@ pub fn key_in(img: &[u8], b: usize) -> usize
     ensures { (result ≡ key_of (view img.now b relative_at)) × (result < 65536) }
 {
     inspect::key_of(image::signed_word(img, b, RELATIVE))
-}
-
-// Whether file f has for the key in the header of block b this very block.
-pub fn held(img: &[u8], p: Partition, f: usize, b: usize) -> bool
-    requires { (Opened p img.now f) × (b ≤ p.e) }
-    ensures { result ≡ held p (view img.now) f b }
-{
-    let n = inspect::len(img, f);
-    let k = key_in(img, b);
-    if !inspect::has_key(n, k) {
-        return false;
-    }
-    inspect::spot(img, p, f, k) == b
 }
 
 // Whether block b is owned, where no candidate is malformed: its header leads to a file, and the file to this very block.
@@ -50,7 +36,12 @@ pub fn owned(img: &[u8], p: Partition, b: usize) -> bool
     if !inspect::candidate(img, p, f) {
         return false;
     }
-    held(img, p, f, b)
+    let n = inspect::len(img, f);
+    let k = key_in(img, b);
+    if !inspect::has_key(n, k) {
+        return false;
+    }
+    inspect::spot(img, p, f, k) == b
 }
 
 // The link to key k of f, nil for none.

@@ -8,7 +8,7 @@ use base::Refusal;
 use volume::{Found, Lent, Outcome};
 
 // The bytes of a description, and where the length of the name and its characters stand in them.
-const DESCRIPTION: usize = 104;
+pub const DESCRIPTION: usize = 104;
 
 const LENGTH: usize = 22;
 

@@ -1,16 +1,16 @@
 -- Demand 3 in the terms of the exported calls' contracts. Each image here is what an exported call made of the one before it, with the
--- answer that it gave: `Changed` is the contract of the six changing calls, and the equation with `checked` that of check. The outcome 0
+-- answer that it gave: `Changed` is the contract of the five changing calls, and the equation with `checked` that of check. The outcome 0
 -- is PERQ_DONE. The count of stores made, which the stopped call answers, tells which of the two its file is.
 use Rattle.std.specs.Prelude.{◌≡◌, refl, ◌≢◌, List, true, ℕ, ◌≤◌, ltb, length, take}
 use Rattle.std.proofs.Common.{sym, ap, ◌∙◌, subst, arith}
 use Rattle.base.specs.Tests.{pick}
 use Rattle.volume.specs.Answers.{checked}
-use Rattle.volume.specs.Calls.{Call, Planned, planned, decided, Answered}
+use Rattle.volume.specs.Calls.{Call, repair, Planned, planned, decided, Answered}
 use Rattle.volume.specs.declared.Answer.{Answer}
 use Rattle.volume.specs.declared.Found.TheVariants.{At}
 use Rattle.volume.specs.declared.Outcome.{Outcome}
 use Rattle.volume.specs.declared.Outcome.TheVariants.{Done, Absent, Refused}
-use Rattle.crash.specs.Statement.{Image, Proper, mends, is_done, Accepted, whole, SameFile, named}
+use Rattle.crash.specs.Statement.{Image, Proper, is_done, Accepted, whole, SameFile, named}
 use Rattle.crash.specs.Answering as inner
 use Rattle.perq.specs.Flat.{flat, Changed}
 use Rattle.perq.specs.declared.PerqAnswer.{PerqAnswer}
@@ -23,10 +23,10 @@ module _ (d s : ℕ) where
     called : {m m' : List ℕ} → Called l m → (c : Call) → Proper c → (limit : ℕ) (r : PerqAnswer) → length (planned d m s c).list ≤ limit
         → Changed limit (planned d m s c) m m' r → Called l m'
 
-  -- repairs, plain or collecting, under any limits did
+  -- repairs under any limits did
   pub data Repaired (l : List ℕ) : List ℕ → Type 0 where
     begun : Repaired l l
-    mended : {m m' : List ℕ} → Repaired l m → (c : Call) → mends c ≡ true → Proper c → (limit : ℕ) (r : PerqAnswer) → Changed limit (planned d m s c) m m' r → Repaired l m'
+    mended : {m m' : List ℕ} → Repaired l m → (limit : ℕ) (r : PerqAnswer) → Changed limit (planned d m s repair) m m' r → Repaired l m'
 
   -- check of l answered a
   abbrev pub Checked : List ℕ → PerqAnswer → Type 0
@@ -71,7 +71,7 @@ module _ {d s : ℕ} where
 
   repairs_below : {l m : List ℕ} → Repaired d s l m → inner.Repaired d s l m
   repairs_below begun = inner.begun
-  repairs_below (mended {m} h c q p limit r x) = inner.mended (repairs_below h) c q p limit (below limit (planned d m s c)) (answered x)
+  repairs_below (mended {m} h limit r x) = inner.mended (repairs_below h) limit (below limit (planned d m s repair)) (answered x)
 
 passed : (d s : ℕ) (l : List ℕ) (a : PerqAnswer) → Checked d s l a → a.outcome ≡ 0 → Accepted d s l
 passed d s l a q h = zero_done 0 (checked d l s) (sym (ap (λ (x : PerqAnswer). x.outcome) q) ∙ h)
@@ -84,25 +84,25 @@ passing d s l h a q = ap (λ (x : PerqAnswer). x.outcome) q ∙ done_zero 0 (che
 -- a repair at any point answers "done", under any limit
 pub never_refused : (d s : ℕ) (l m : List ℕ) → Image l → (a : PerqAnswer) → Checked d s l a → a.outcome ≡ 0 → Called d s l m → (c : Call) → Proper c
     → (limit : ℕ) (r : PerqAnswer) (m₁ : List ℕ) → Changed limit (planned d m s c) m m₁ r → (l' : List ℕ) → Repaired d s m₁ l'
-    → (c' : Call) → mends c' ≡ true → (limit' : ℕ) (r' : PerqAnswer) (l'' : List ℕ) → Changed limit' (planned d l' s c') l' l'' r' → r'.outcome ≡ 0
-never_refused d s l m b a k o h c p limit r m₁ x l' y c' q limit' r' l'' x' =
+    → (limit' : ℕ) (r' : PerqAnswer) (l'' : List ℕ) → Changed limit' (planned d l' s repair) l' l'' r' → r'.outcome ≡ 0
+never_refused d s l m b a k o h c p limit r m₁ x l' y limit' r' l'' x' =
     ap (λ (z : PerqAnswer). z.outcome) x'.answers
-    ∙ done_zero _ (planned d l' s c').outcome (inner.never_refused d s l m b (passed d s l a k o) (calls_below h) c p limit _ m₁ (answered x) l' (repairs_below y) c' q limit' _ l'' (answered x'))
+    ∙ done_zero _ (planned d l' s repair).outcome (inner.never_refused d s l m b (passed d s l a k o) (calls_below h) c p limit _ m₁ (answered x) l' (repairs_below y) limit' _ l'' (answered x'))
 
 -- and one that is let make all its stores ends as demand 3 says
 pub demand_3_in_calls : (d s : ℕ) (l m : List ℕ) → Image l → (a : PerqAnswer) → Checked d s l a → a.outcome ≡ 0 → Called d s l m → (c : Call) → Proper c
     → (limit : ℕ) (r : PerqAnswer) (m₁ : List ℕ) → Changed limit (planned d m s c) m m₁ r → (l' : List ℕ) → Repaired d s m₁ l'
-    → (c' : Call) → mends c' ≡ true → (limit' : ℕ) (r' : PerqAnswer) (l'' : List ℕ) → length (planned d l' s c').list ≤ limit' → Changed limit' (planned d l' s c') l' l'' r'
+    → (limit' : ℕ) (r' : PerqAnswer) (l'' : List ℕ) → length (planned d l' s repair).list ≤ limit' → Changed limit' (planned d l' s repair) l' l'' r'
     → Outlives d s m c r l'' r'
-demand_3_in_calls d s l m b a k o h c p limit r m₁ x l' y c' w limit' r' l'' all x' = record {
-  done = never_refused d s l m b a k o h c p limit r m₁ x l' y c' w limit' r' l'' x';
+demand_3_in_calls d s l m b a k o h c p limit r m₁ x l' y limit' r' l'' all x' = record {
+  done = never_refused d s l m b a k o h c p limit r m₁ x l' y limit' r' l'' x';
   accepted = passing d s l'' z.accepted;
   others = z.others;
   all_or_none = λ f q. subst (λ (n : ℕ). SameFile d s (pick (ltb 0 (decided (planned d m s c).deciding n)) (whole d s m c) m) l'' f) (sym made) (z.all_or_none f q);
 }
   where
-    z : inner.Outlives d s m c (below limit (planned d m s c)) l'' (below limit' (planned d l' s c'))
-    z = inner.demand_3_in_calls d s l m b (passed d s l a k o) (calls_below h) c p limit _ m₁ (answered x) l' (repairs_below y) c' w limit' _ l'' all (answered x')
+    z : inner.Outlives d s m c (below limit (planned d m s c)) l'' (below limit' (planned d l' s repair))
+    z = inner.demand_3_in_calls d s l m b (passed d s l a k o) (calls_below h) c p limit _ m₁ (answered x) l' (repairs_below y) limit' _ l'' all (answered x')
 
     made : r.made ≡ length (take limit (planned d m s c).list)
     made = ap (λ (q : PerqAnswer). q.made) x.answers ∙ flat_made _ (planned d m s c).outcome

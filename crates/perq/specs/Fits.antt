@@ -15,15 +15,14 @@ use Rattle.image.specs.Image.{view}
 use Rattle.image.specs.Saves.{words}
 use Rattle.volume.specs.Files.{partition_of, candidate, well_formed, is_file, is_malformed, owned, sound, block_at, len, name, free_head, free, unowned}
 use Rattle.volume.specs.declared.Partition.{Partition}
-use Rattle.volume.specs.Keys.{home, reach}
+use Rattle.volume.specs.Keys.{reach}
 use Rattle.volume.specs.KeyLaws.{first_data}
 use Rattle.volume.specs.Index.{wf_of, member}
 use Rattle.volume.specs.Reads.{in_part, lies, inside_of, candidate_in}
-use Rattle.volume.specs.Steps.{lowest_at, lowest_passes}
+use Rattle.volume.specs.Steps.{lowest_at}
 use Rattle.volume.specs.Answers.{partition, in_partition, lowest, lowest_malformed, file_above, found_file, next_file, tallied, check_clean, check_in, checked, of_file, show_in, shown, either_of, shown_pair, read_from, plain, described_as, extract_in, extracted}
-use Rattle.volume.specs.Calls.{Planned, refuse, lending, lent_block, lent_text, unmarred, through, create_in, append_in, write_in, describe_in, destroy_in, repair_in, gather_in, collect_by, collect_in, planned, Answered, Call, create, write, describe, destroy, repair, collect}
+use Rattle.volume.specs.Calls.{Planned, refuse, lending, lent_block, lent_text, unmarred, through, create_in, append_in, write_in, describe_in, destroy_in, repair_in, planned, Answered, Call, create, write, describe, destroy, repair}
 use Rattle.volume.specs.Writes.{needs}
-use Rattle.volume.specs.Collect.{torn, collected, others, needed}
 use Rattle.volume.specs.declared.Lent.{Lent}
 use Rattle.volume.specs.declared.Lent.TheVariants.{Fine, WrongLength, WrongName}
 use Rattle.volume.specs.declared.Found.{Found}
@@ -35,9 +34,6 @@ use Rattle.volume.specs.declared.Answer.{Answer}
 use Rattle.perq.specs.Flat.{flat, Changed}
 use Rattle.perq.specs.declared.PerqAnswer.{PerqAnswer}
 use Rattle.frame.specs.Sound.{free_in, head_free}
-use Rattle.frame.specs.Chain.{length_most}
-use Rattle.aims.specs.Asked.{asked_home}
-use Rattle.aims.specs.Gather.{fit}
 
 -- each number of an answer fits
 abbrev pub OutcomeFits : Outcome → Type 0
@@ -236,24 +232,6 @@ module _ (d : ℕ) (l : List ℕ) (s e : ℕ) where
   unfolding repair_in
   repair_fits = pickp_fits (eqb (length (unowned π (view l))) 0) _ _ (λ _. omega arith) (λ _. done_fits)
 
-  gather_fits : e < 69552 → e - s < 32767 → (f : ℕ) → is_malformed π (view l) f ≡ true → (kind : ℕ) → OutcomeFits (gather_in π (view l) kind).outcome
-  unfolding gather_in collected
-  gather_fits few size f b kind =
-      pickp_fits (ltb (needed (length (collected π (view l)))) (length (others π (view l)))) _ _
-      (λ q. (
-        omega (arith, few, (inside_of π _ ((fit π (view l) f b (ltb-true _ _ q) size).ins home (asked_home _))).1),
-        omega (arith, few, length_most (torn π (view l)) (suc s) (e - s)),
-        omega arith,
-      )) (λ _. omega arith)
-
-  collect_fits : e < 69552 → e - s < 32767 → (kind : ℕ) → OutcomeFits (collect_in π (view l) kind).outcome
-  unfolding collect_in lowest_malformed
-  collect_fits few size kind = go (lowest_malformed π (view l)) refl
-    where
-      go : (x : Found) → lowest_malformed π (view l) ≡ x → OutcomeFits (collect_by π (view l) kind x).outcome
-      go (At f) q = gather_fits few size f (lowest_passes (is_malformed π (view l)) (s + 1) (e - s) f q) kind
-      go Nothing q = repair_fits
-
 pub planned_fits : (d : ℕ) (l : List ℕ) (s : ℕ) (c : Call) → OutcomeFits (planned d l s c).outcome
 unfolding planned
 planned_fits d l s (create kind) = through_fits d l s Fine (λ π. create_in π (view l) kind) (λ e few ok. create_fits d l s e few ok kind)
@@ -263,7 +241,6 @@ planned_fits d l s (destroy f) = through_fits d l s Fine (λ π. destroy_in π (
 planned_fits d l s repair =
     planned_part d l s (λ e. unmarred (lowest_malformed (partition_of d s e) (view l)) (repair_in (partition_of d s e) (view l)))
     (λ e g. let i = lies d l s e g in planned_clean (partition_of d s e) (view l) (repair_in (partition_of d s e) (view l)) i.few (omega (arith, i.order)) (repair_fits d l s e))
-planned_fits d l s (collect kind) = planned_part d l s _ (λ e g. let i = lies d l s e g in collect_fits d l s e i.few i.small kind)
 
 -- a changing call answered as its plan says: its numbers fit, and flattened it is what `Changed` asks for
 take_most : {A : Type 0} (n : ℕ) (l : List A) → length (take n l) ≤ n

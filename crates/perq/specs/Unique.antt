@@ -7,7 +7,7 @@ use Rattle.drive.specs.Answers.{lbn_to_pda, pda_to_lbn, lbn_to_lda, lda_to_lbn, 
 use Rattle.image.specs.Stores.{lay}
 use Rattle.volume.specs.Answers.{checked, next_file, shown, shown_pair, read_from, plain, read_into, described_as, described_into, extracted}
 use Rattle.volume.specs.Names.{name_answer}
-use Rattle.volume.specs.Calls.{planned, create, write, describe, destroy, repair, collect}
+use Rattle.volume.specs.Calls.{planned, create, write, describe, destroy, repair}
 use Rattle.extract.specs.Into.{extracted_into}
 use Rattle.directory.specs.Directory.{look_up, treed}
 use Rattle.perq.specs.Flat.{flat_converted, flat, flat_from, Changed}
@@ -100,6 +100,3 @@ module _ (image : List ℕ) (drive s : ℕ) where
 
   pub perq_repair_unique : (limit : ℕ) → OneAnswerAfter (λ a exit. Changed limit (planned drive image s repair) image exit a)
   perq_repair_unique limit a a' l l' p q = (same p.answers q.answers, same p.image q.image)
-
-  pub perq_collect_unique : (kind limit : ℕ) → OneAnswerAfter (λ a exit. Changed limit (planned drive image s (collect kind)) image exit a)
-  perq_collect_unique kind limit a a' l l' p q = (same p.answers q.answers, same p.image q.image)

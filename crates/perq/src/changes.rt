@@ -1,5 +1,5 @@
 // The calls that change the image, for a host: only the first `limit` stores are made.
-ghost use Rattle.volume.specs.Calls.{planned, create, write, describe, destroy, repair, collect};
+ghost use Rattle.volume.specs.Calls.{planned, create, write, describe, destroy, repair};
 ghost use Rattle.perq.specs.Flat.{Changed};
 
 use crate::PerqAnswer;
@@ -96,25 +96,6 @@ pub extern "C" fn perq_repair(image: &mut [u8], drive: u32, s: u32, limit: u32) 
     let p = crate::wide(s);
     let n = crate::wide(limit);
     let x = repair::repair(image, d, p, n);
-    let o = x.outcome;
-    crate::flat(x.made, o)
-}
-
-// Repair the partition, and make one file of that kind of what its malformed candidates leave.
-#[unsafe(no_mangle)]
-pub extern "C" fn perq_collect(
-    image: &mut [u8],
-    drive: u32,
-    s: u32,
-    kind: u16,
-    limit: u32,
-) -> PerqAnswer
-    ensures { Changed limit (planned drive image.old s (collect kind)) image.old image.new result }
-{
-    let d = crate::wide(drive);
-    let p = crate::wide(s);
-    let n = crate::wide(limit);
-    let x = collect::collect(image, d, p, kind, n);
     let o = x.outcome;
     crate::flat(x.made, o)
 }

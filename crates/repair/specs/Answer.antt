@@ -14,7 +14,7 @@ use Rattle.volume.specs.Files.{partition_of, unowned}
 use Rattle.volume.specs.declared.Partition.{Partition}
 use Rattle.volume.specs.Answers.{partition, lowest_malformed}
 use Rattle.volume.specs.Plans.{Plan, stores, repair_plan}
-use Rattle.volume.specs.Calls.{Planned, refuse, finish, finish2, repair_in, planned, Call, Answered}
+use Rattle.volume.specs.Calls.{Planned, refuse, finish, repair_in, planned, Call, Answered}
 use Rattle.volume.specs.declared.Answer.{Answer}
 use Rattle.volume.specs.declared.Found.TheVariants.{At, Nothing}
 use Rattle.volume.specs.declared.Part.TheVariants as part
@@ -55,8 +55,8 @@ pub answered_not : {limit : ℕ} {p : Planned} {l : List ℕ} {a : Answer} (y : 
 unfolding stored
 answered_not y h e = rw (h, e) (record { outcome = refl; made = rw take-nil; image = rw take-nil })
 
-pub answered_done : {limit left n a b : ℕ} {p : Planned} {l l' : List ℕ} (plan : Plan) → p ≡ finish2 a b plan → n ≡ limit - left → Applied limit (stores plan) l l' left
-    → Answered limit p l l' (record { made = n; outcome = Done a b 0 })
+pub answered_done : {limit left n : ℕ} {p : Planned} {l l' : List ℕ} (plan : Plan) → p ≡ finish 0 plan → n ≡ limit - left → Applied limit (stores plan) l l' left
+    → Answered limit p l l' (record { made = n; outcome = Done 0 0 0 })
 answered_done plan h e a = rw h (let m = made e a in record { outcome = refl; made = m.count; image = m.image })
 
 module _ (d : ℕ) (l : List ℕ) (s : ℕ) where

@@ -43,14 +43,14 @@ pub record Turned (π : Partition) (l l' : List ℕ) (b : ℕ) (t t' : Progress)
   pub store : Applied t.left (st b (repaired π (view l) (unowned π (view l)) b) ∷ []) l l' t'.left
   pub stand : Standing (is_free π (view l)) π.s π.e (b + 1) t'.last t'.next t'.count
 
-pub tab_snoc : (i k : ℕ) (f : ℕ → Store) → tab_from i (suc k) f ≡ tab_from i k f ++ (f (i + k) ∷ [])
+tab_snoc : (i k : ℕ) (f : ℕ → Store) → tab_from i (suc k) f ≡ tab_from i k f ++ (f (i + k) ∷ [])
 unfolding tab_from
 tab_snoc i zero f = ap (λ (n : ℕ). f n ∷ []) (let z : i ≡ i + 0 = omega arith in z)
 tab_snoc i (suc k) f =
     ap (λ (ys : List Store). f i ∷ ys) (tab_snoc (suc i) k f ∙ ap (λ (n : ℕ). tab_from (suc i) k f ++ (f n ∷ [])) (let z : suc i + k ≡ i + suc k = omega arith in z))
 
 -- one store under a limit, on the view
-pub applied_view : (room b : ℕ) (R : Rec) (l l' : List ℕ) (x : ℕ) → Applied room (st b R ∷ []) l l' x → In l b → Fits R
+applied_view : (room b : ℕ) (R : Rec) (l l' : List ℕ) (x : ℕ) → Applied room (st b R ∷ []) l l' x → In l b → Fits R
     → ((view l' ≡ view l) ⊎ (view l' ≡ upd (view l) b R)) × (length l' ≡ length l)
 unfolding stored
 applied_view zero b R l l' x p hl hf = (inl (ap view p.image), ap length p.image)
@@ -167,7 +167,7 @@ module _ {π : Partition} {l : List ℕ} {limit : ℕ} {l' : List ℕ} {b : ℕ}
   mend_past q = subst (λ (x : ℕ). Mending π l limit l' x t) q m
 
 -- the PIB's record for the free blocks fr
-pub pib_is : (π : Partition) (v : View) (fr : List ℕ) {first last n : ℕ} → first ≡ head_of 0 fr → last ≡ last_of 0 fr → n ≡ length fr
+pib_is : (π : Partition) (v : View) (fr : List ℕ) {first last n : ℕ} → first ≡ head_of 0 fr → last ≡ last_of 0 fr → n ≡ length fr
     → pib_record π.drive v π.s first last n ≡ repaired_pib π v fr
 unfolding repaired_pib pib_record
 pib_is π v fr h t k = rw (h, t, k)

@@ -83,7 +83,7 @@ fn mend(img: &mut [u8], p: Partition, first: usize, limit: usize) -> Progress
 }
 
 // A refusal, under which nothing is stored.
-pub fn refused(why: Refusal) -> Answer
+fn refused(why: Refusal) -> Answer
     ensures { result ≡ record { made = 0; outcome = Refused why } }
 {
     Answer {
@@ -93,7 +93,7 @@ pub fn refused(why: Refusal) -> Answer
 }
 
 // Repair of a partition with no malformed candidate: refused where no block is unowned.
-pub fn repair_in(img: &mut [u8], p: Partition, limit: usize) -> Answer
+fn repair_in(img: &mut [u8], p: Partition, limit: usize) -> Answer
     requires { Ready p img.old }
     ensures { Answered limit (repair_in p (view img.old)) img.old img.new result }
 {

@@ -8,13 +8,12 @@ use Rattle.image.specs.View.{View, Rec, Store}
 use Rattle.image.specs.Image.{view}
 use Rattle.image.specs.Stores.{stored}
 use Rattle.image.specs.Saves.{words}
-use Rattle.volume.specs.Keys.{home, reach}
+use Rattle.volume.specs.Keys.{reach}
 use Rattle.volume.specs.Files.{partition_of, candidate, len, sound, free, free_head, unowned}
 use Rattle.volume.specs.declared.Partition.{Partition}
 use Rattle.volume.specs.Answers.{partition, in_partition, lowest_malformed}
 use Rattle.volume.specs.Names.{good_name}
 use Rattle.volume.specs.Plans.{Plan, stores, create_plan, describe_plan, destroy_plan, repair_plan}
-use Rattle.volume.specs.Collect.{collected, others, needed, place, gathered}
 use Rattle.volume.specs.Writes.{needs, write_plan, replace_plan}
 use Rattle.volume.specs.declared.Found.{Found}
 use Rattle.volume.specs.declared.Found.TheVariants.{At, Nothing}
@@ -39,12 +38,9 @@ decided (i ∷ is) k = pick (ltb i k) 1 0 + decided is k
 abbrev pub refuse : Refusal → Planned
 refuse y = record { outcome = Refused y; list = []; deciding = [] }
 
--- a call that is done, with the values a and b; with the value a alone
-abbrev pub finish2 : ℕ → ℕ → Plan → Planned
-finish2 a b p = record { outcome = Done a b 0; list = stores p; deciding = length p.before ∷ [] }
-
+-- a call that is done, with the value a
 abbrev pub finish : ℕ → Plan → Planned
-finish a = finish2 a 0
+finish a p = record { outcome = Done a 0 0; list = stores p; deciding = length p.before ∷ [] }
 
 -- ---- refusals 1 to 5 and 12, on the unchanged image
 
@@ -107,25 +103,6 @@ module _ (π : Partition) (v : View) where
   unfoldable pub repair_in : Planned
   repair_in = pick (eqb (length (unowned π v)) 0) (refuse NothingFree) (finish 0 (repair_plan π v))
 
-  -- where a candidate is malformed: 9 is fewer others than the new file's FIB, its pointer blocks and one free block more; the new file's
-  -- LBN and its number of data blocks
-  unfoldable pub gather_in : ℕ → Planned
-  gather_in kind =
-      let n = length (collected π v) in
-      pick (ltb (needed n) (length (others π v))) (finish2 (place (collected π v) (others π v) home) n (repair_plan π (gathered π v kind))) (refuse NothingFree)
-
-  abbrev pub collect_by : ℕ → Found → Planned
-  collect_by kind (At f) = gather_in kind
-  collect_by kind Nothing = repair_in
-
-  -- collecting repair, asked for by name: without a malformed candidate it is plain repair
-  unfoldable pub collect_in : ℕ → Planned
-  collect_in kind = collect_by kind (lowest_malformed π v)
-
-  -- plain repair: 4 where one is
-  abbrev pub plain_in : Planned
-  plain_in = unmarred (lowest_malformed π v) repair_in
-
 -- ---- the calls
 
 -- a changing call with its arguments; buffers are lists of bytes
@@ -135,16 +112,15 @@ pub data Call : Type 0 where
   describe : ℕ → List ℕ → Call
   destroy : ℕ → Call
   repair : Call
-  collect : ℕ → Call
 
--- changing calls are refused by 1 to 8 and 12, repair by 1, 2, 4, 9, collecting by 1, 2, 9
+-- changing calls are refused by 1 to 8 and 12, repair by 1, 2, 4, 9
 unfoldable pub planned : ℕ → List ℕ → ℕ → Call → Planned
 planned d l s (create kind) = through d l s Fine (λ π. create_in π (view l) kind)
 planned d l s (write f r block) = through d l s (lent_block block) (λ π. write_in π (view l) f r (words block))
 planned d l s (describe f text) = through d l s (lent_text text) (λ π. describe_in π (view l) f (words text))
 planned d l s (destroy f) = through d l s Fine (λ π. destroy_in π (view l) f)
-planned d l s repair = in_partition refuse (partition d l s) (λ e. plain_in (partition_of d s e) (view l))
-planned d l s (collect kind) = in_partition refuse (partition d l s) (λ e. collect_in (partition_of d s e) (view l) kind)
+planned d l s repair =
+    in_partition refuse (partition d l s) (λ e. let π = partition_of d s e in unmarred (lowest_malformed π (view l)) (repair_in π (view l)))
 
 -- ---- under a limit
 

@@ -93,7 +93,7 @@ entry_asked n k i a l = ap (λ (x : ℕ). ltb x n) (child_first k i a l) ∙ cap
         go true q = h
         go false q = h ∙ lt-ltb i m (omega (arith, ltb-false m 128 q)) ∙ sym (lt-ltb i 128 l)
 
-pub count_all : (m : ℕ) (P : ℕ → Bool) → ((i : ℕ) → i < m → P i ≡ true) → count m P ≡ m
+count_all : (m : ℕ) (P : ℕ → Bool) → ((i : ℕ) → i < m → P i ≡ true) → count m P ≡ m
 unfolding count
 count_all zero P h = refl
 count_all (suc m) P h = rw (h m (omega arith)) (omega (arith, count_all m P (λ i l. h i (omega arith))))

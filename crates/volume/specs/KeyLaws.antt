@@ -326,14 +326,6 @@ child_pair q w x h e = go (ltb 288 q) refl
     go true z = let a = ltb-true 288 q z in child_double q w a h ∙ ap (λ (y : ℕ). 256 - 128 * (290 - q) - y) e ∙ sym (child_double q x a h)
     go false z = let a = ltb-false 288 q z in child_ptr q w a ∙ ap (λ (y : ℕ). 356 + 128 * (288 - q) + y) e ∙ sym (child_ptr q x a)
 
--- and never to the FIB's
-pub child_ne : (q w : ℕ) → q < home → child q w ≢ home
-child_ne q w h e = go (ltb 288 q) refl
-  where
-    go : (t : Bool) → ltb 288 q ≡ t → ⊥
-    go true z = omega (arith, child_double q w (ltb-true 288 q z) h, e)
-    go false z = omega (arith, child_ptr q w (ltb-false 288 q z), e)
-
 -- ---- rows of the index, by number
 
 pub row_direct : (r : ℕ) → r < 64 → (up (292 + r) ≡ home) × (slot (292 + r) ≡ 60 + 2 * r)
@@ -368,7 +360,7 @@ pub child_data : (k i : ℕ) → k ≤ 288 → child k (slot_at i) ≡ 356 + 128
 unfolding child
 child_data k i a = simp (ne_eqb k 291 (λ z. omega arith), le-ltb 288 k (omega arith)) (omega arith)
 
-pub child_pointer : (k i : ℕ) → 288 < k → k < home → child k (slot_at i) ≡ 256 - 128 * (290 - k) - i
+child_pointer : (k i : ℕ) → 288 < k → k < home → child k (slot_at i) ≡ 256 - 128 * (290 - k) - i
 child_pointer k i a b = child_double k (8 + 2 * i) a b ∙ ap (λ (x : ℕ). 256 - 128 * (290 - k) - x) (let z : (8 + 2 * i - 8) / 2 ≡ i = omega arith in z)
 
 -- the blocks that an entry of pointer block k leads to begin so far behind those of the entry before it

@@ -6,7 +6,6 @@ pub mod Files
 pub mod Answers
 pub mod Names
 pub mod Plans
-pub mod Collect
 pub mod Writes
 pub mod Calls
 pub mod Edges

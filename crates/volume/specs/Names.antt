@@ -9,7 +9,7 @@ use Rattle.volume.specs.declared.Found.TheVariants.{At, Nothing}
 use Rattle.volume.specs.declared.Outcome.{Outcome}
 use Rattle.volume.specs.declared.Outcome.TheVariants.{Done, Refused}
 
--- ---- characters that no name has, and the lengths that one may have
+-- ---- characters and lengths that no name has
 
 unfoldable pub control : ℕ → Bool
 control c = ltb c 32 || eqb c 127

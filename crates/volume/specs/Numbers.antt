@@ -1,4 +1,4 @@
--- Each of the numbers 1 to 10, and 12 (docs/FORMAT.md, 7.3), is given by some input: no refusal is vacuous. By computation.
+-- Each of the numbers 1 to 10 (docs/FORMAT.md, 7.3) is given by some input: no refusal is vacuous. By computation.
 use Rattle.std.specs.Prelude.{◌≡◌, refl, List, [], ◌∷◌, ◌++◌, ℕ, eqb, take, replicate}
 use Rattle.base.specs.Tests.{pick, both, every, tab_from, head_of, last_of, those, all, count, occ, same_row, same_table}
 use Rattle.base.specs.Tests as tests
@@ -16,7 +16,7 @@ use Rattle.volume.specs.Files.{partition_of, inside, within, candidate, len, spo
 use Rattle.volume.specs.declared.Partition.{Partition}
 use Rattle.volume.specs.Plans.{new_first, pib_less, fresh_fib, gone, top_gone, fib_gone, top_gone_stores, last_gone_stores, pib_more, destroyed, trimmed, shaped, stores, free_at, taken_stores, create_plan, describe_plan, destroy_plan, content, relinked, freed, repaired, repaired_pib, repair_plan}
 use Rattle.volume.specs.Writes.{put2_if, over, counted, inner, needs, is_new, fresh, present', spot', above', below', least', size', link', early, empty, base, entered, ended, body, grown, plan_of, write_plan, replace_plan}
-use Rattle.volume.specs.Calls.{refuse, gated, create_in, append_in, write_in, describe_in, destroy_in, repair_in, plain_in}
+use Rattle.volume.specs.Calls.{refuse, gated, create_in, append_in, write_in, describe_in, destroy_in, repair_in}
 use Rattle.volume.specs.declared.Lent.TheVariants.{WrongName}
 use Rattle.base.specs.declared.Refusal.TheVariants.{Full}
 use Rattle.image.specs.Image.{view}
@@ -61,7 +61,6 @@ given =
     ∷ outcome_of (write_in seven v₁ 2 1 block).outcome
     ∷ outcome_of (create_in two w 5).outcome
     ∷ outcome_of (repair_in two taken).outcome
-    ∷ outcome_of (plain_in seven torn).outcome
     ∷ one_number (lbn_to_file_id 2 57344)
     ∷ outcome_of (gated seven torn WrongName (refuse Full)).outcome
     ∷ []
@@ -77,7 +76,6 @@ numbers =
     ∷ (2 ∷ 7 ∷ [])
     ∷ (2 ∷ 8 ∷ [])
     ∷ (2 ∷ 9 ∷ [])
-    ∷ (2 ∷ 4 ∷ [])
     ∷ (10 ∷ [])
     ∷ (2 ∷ 12 ∷ [])
     ∷ []

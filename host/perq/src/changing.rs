@@ -17,17 +17,6 @@ pub struct Created {
     pub made: u32,
 }
 
-/// What [`collect`] made.
-#[derive(Clone, Copy, Debug, PartialEq, Eq)]
-pub struct Collected {
-    /// The new file's block; none where no file was malformed.
-    pub file: Option<u32>,
-    /// How many blocks of data it has; 0 where there is none.
-    pub blocks: u32,
-    /// How many stores were made.
-    pub made: u32,
-}
-
 /// An image of `n` records, zero but for the start and the end of one partition, blocks `s` to `e`. [`repair`] makes it a
 /// fresh partition without files.
 ///
@@ -124,7 +113,7 @@ pub fn destroy(image: &mut [u8], drive: Drive, s: u32, f: u32, limit: u32) -> Re
 }
 
 /// Links every file and chains every free block anew, from the indexes alone; answers how many stores were made. It is
-/// refused where a file is malformed, since which blocks are free is then not known; [`collect`] repairs there too.
+/// refused where a file is malformed: which blocks are free is then not known.
 ///
 /// ```
 /// use perq::{blank, check, create, repair, write, Drive, Refusal, ALL};
@@ -141,42 +130,4 @@ pub fn destroy(image: &mut [u8], drive: Drive, s: u32, f: u32, limit: u32) -> Re
 /// ```
 pub fn repair(image: &mut [u8], drive: Drive, s: u32, limit: u32) -> Result<u32, Refusal> {
     Ok(done(raw::repair(image, drive.number(), s, limit))?.made)
-}
-
-/// As [`repair`], and where files are malformed, what is left of them becomes one new file of a kind, with a description of
-/// zeros: every block that no file owns and whose serial is that of a malformed file, their own blocks included, in ascending
-/// order. Where no file is malformed it is `repair`, store for store. It is never refused for a malformed file, but where too
-/// few other blocks are left for the new file's own block, its pointer blocks and one free block more.
-///
-/// Under a limit that cuts it short, every well formed file keeps its blocks and bytes, and does so through any later repair of
-/// either kind. What the new file holds is then not promised, nor that collecting can be finished: begun again it may be
-/// refused.
-///
-/// ```
-/// use perq::{blank, check, collect, create, repair, whole_file, write, Collected, Drive, Refusal, ALL, RECORD};
-///
-/// let drive = Drive::Floppy;
-/// let mut image = blank(drive, 20, 1, 19)?;
-/// repair(&mut image, drive, 1, ALL)?;
-/// let torn = create(&mut image, drive, 1, 0, ALL)?.file;
-/// write(&mut image, drive, 1, torn, 0, &[7; 512], ALL)?;
-/// image[RECORD * torn as usize + 16 + 2 * 249] = 99; // it says now that it uses 99 blocks
-/// assert_eq!(repair(&mut image, drive, 1, ALL), Err(Refusal::Malformed { block: torn }));
-/// let collected = collect(&mut image, drive, 1, 5, ALL)?;
-/// assert_eq!(collected, Collected { file: Some(4), blocks: 2, made: 19 });
-/// // First the torn file's own block, then its data.
-/// assert_eq!(whole_file(&image, drive, 1, 4)?[512..], [7; 512]);
-/// assert_eq!(check(&image, drive, 1)?.free, 15);
-/// # Ok::<(), Refusal>(())
-/// ```
-pub fn collect(
-    image: &mut [u8],
-    drive: Drive,
-    s: u32,
-    kind: u16,
-    limit: u32,
-) -> Result<Collected, Refusal> {
-    let answer = done(raw::collect(image, drive.number(), s, kind, limit))?;
-    // No file is at block 0: a partition's own block is below all of its files.
-    Ok(Collected { file: (answer.a != 0).then_some(answer.a), blocks: answer.b, made: answer.made })
 }

@@ -53,9 +53,7 @@ mod refusal;
 pub use address::{
     fileid_to_lbn, lbn_to_fileid, lbn_to_lda, lbn_to_pda, lda_to_lbn, pda_to_lbn, Words,
 };
-pub use changing::{
-    blank, collect, create, describe, destroy, repair, write, Collected, Created, ALL,
-};
+pub use changing::{blank, create, describe, destroy, repair, write, Created, ALL};
 pub use directory::{look_up, tree, Row, Rule, Target, Tree, What, JOINT, ROW};
 pub use drive::Drive;
 pub use name::{name, NameFault};

@@ -137,14 +137,6 @@ extern "C" {
         limit: u32,
     ) -> Answer;
     fn perq_repair(image: *mut u8, length: usize, drive: u32, s: u32, limit: u32) -> Answer;
-    fn perq_collect(
-        image: *mut u8,
-        length: usize,
-        drive: u32,
-        s: u32,
-        kind: u16,
-        limit: u32,
-    ) -> Answer;
 }
 
 // SAFETY, for every `unsafe` below: the library keeps no pointer, and reads and writes only the bytes that it is lent.
@@ -334,10 +326,4 @@ pub fn destroy(image: &mut [u8], drive: u32, s: u32, f: u32, limit: u32) -> Answ
 /// Links the files and chains the free blocks anew.
 pub fn repair(image: &mut [u8], drive: u32, s: u32, limit: u32) -> Answer {
     unsafe { perq_repair(image.as_mut_ptr(), image.len(), drive, s, limit) }
-}
-
-/// As [`repair`], but the blocks of malformed candidates become a new file: `b` blocks of data in file `a`, both 0 where there
-/// is no such candidate.
-pub fn collect(image: &mut [u8], drive: u32, s: u32, kind: u16, limit: u32) -> Answer {
-    unsafe { perq_collect(image.as_mut_ptr(), image.len(), drive, s, kind, limit) }
 }

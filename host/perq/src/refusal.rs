@@ -48,8 +48,7 @@ pub enum Refusal {
     Range,
     /// 8: too few blocks are free; the last one is never handed out.
     Full,
-    /// 9: `repair` found no block that is free; `collect`, where a file is malformed, too few besides those that it collects:
-    /// the new file's own block, its pointer blocks and one free block more.
+    /// 9: repair found no block that is free.
     NoFreeBlock,
     /// 10: a number that is no block, address or FileID of the drive; nil is none.
     Address,
@@ -124,10 +123,9 @@ impl fmt::Display for Refusal {
             ),
             Refusal::Range => out.write_str("the block number is beyond what the file can have"),
             Refusal::Full => out.write_str("the partition has too few free blocks"),
-            // True of both calls: `repair` is refused for the first alone, and which it is in `collect` no answer says.
-            Refusal::NoFreeBlock => out.write_str(
-                "no block is left for the free chain, or in collecting too few for the new file's own block, its pointer blocks and the chain",
-            ),
+            Refusal::NoFreeBlock => {
+                out.write_str("the partition has no free block, so there is no chain to repair")
+            }
             Refusal::Address => {
                 out.write_str("this number is no block, address or FileID of the drive")
             }

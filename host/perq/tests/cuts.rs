@@ -34,27 +34,20 @@ fn every_call(files: &[File], place: &Place) -> Vec<Call> {
     calls
 }
 
-/// Finishes a repair in every way: at once, and after being cut at each store and at one more; all end alike. Those that are
-/// started again are plain or collecting: nothing is malformed, so it makes no difference.
+/// Finishes a repair in every way: at once, and after being cut at each store and at one more; all end alike.
 fn repaired(both: &Both, place: &Place, rng: &mut Rng) -> Vec<u8> {
+    let repair = place.call(Name::Repair);
     let mut at_once = both.clone();
-    let whole = at_once.call(&place.call(Name::Repair));
-    assert_eq!(whole.outcome, 0, "the repair is not refused");
+    assert_eq!(at_once.call(&repair).outcome, 0, "the repair is not refused");
     let stores = place.e - place.s + 1;
     for limit in 0..=stores {
-        let (mut cut, again) = (both.clone(), rng.below(stores + 1));
-        let mut either = |limit| cut.call(&some_repair(place, rng).with_limit(limit));
-        either(limit);
-        either(again);
-        assert_eq!(either(u32::MAX), whole);
+        let mut cut = both.clone();
+        cut.call(&repair.clone().with_limit(limit));
+        cut.call(&repair.clone().with_limit(rng.below(stores + 1)));
+        cut.call(&repair);
         assert!(cut.image() == at_once.image(), "a repair cut after {limit} ends otherwise");
     }
     at_once.image().to_vec()
-}
-
-/// A repair of either kind.
-fn some_repair(place: &Place, rng: &mut Rng) -> Call {
-    place.call(Name::REPAIRS[rng.below(2) as usize]).with_number(0x8001)
 }
 
 /// A refused call makes no store, whatever its limit; and repair finds every file as it was.

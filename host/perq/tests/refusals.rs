@@ -282,7 +282,6 @@ fn a_partition_that_starts_at_block_0_is_not_good() {
     assert_eq!(Both::new(image).call(&Call::new(Name::Check, 0, 0)).number, 2);
 }
 
-/// Collecting has 9 instead of 4: the one block is the malformed candidate itself, and there is none for a new file.
 #[test]
 fn repair_without_an_unowned_block() {
     for drive in 0..4 {
@@ -298,14 +297,10 @@ fn repair_without_an_unowned_block() {
         }
         let mut both = Both::new(image);
         assert!(is_refusal(both.call(&Call::new(Name::Check, drive, 1)), 5));
-        let must_refuse = |both: &mut Both, numbers: [u32; 2]| {
-            let answers = Name::REPAIRS.map(|name| both.call(&Call::new(name, drive, 1)));
-            assert!(is_refusal(answers[0], numbers[0]) && is_refusal(answers[1], numbers[1]));
-        };
-        must_refuse(&mut both, [9, 9]);
+        assert!(is_refusal(both.call(&Call::new(Name::Repair, drive, 1)), 9));
         both.edit(|image| set_word(image, 2, DATA_WORD + 249, 2));
-        must_refuse(&mut both, [4, 9]);
+        assert!(is_refusal(both.call(&Call::new(Name::Repair, drive, 1)), 4));
         both.edit(|image| set_pair(image, 1, DATA_WORD + 118, 0));
-        must_refuse(&mut both, [2, 2]);
+        assert!(is_refusal(both.call(&Call::new(Name::Repair, drive, 1)), 2));
     }
 }

@@ -12,8 +12,7 @@ use trials::draw::{self, candidates};
 use trials::images::{shuffled, some_lengths, Place};
 use trials::low_bits;
 use trials::settings::{cases, rng, rounds};
-use trials::tally::{Tally, NEW};
-use trials::torn::tear;
+use trials::tally::Tally;
 
 /// Writes are what builds up a partition, so they are drawn most.
 const WEIGHTED: [Name; 12] = [
@@ -31,16 +30,6 @@ const WEIGHTED: [Name; 12] = [
     Name::Repair,
 ];
 
-/// A random call; every second repair collects.
-fn some_call(both: &Both, place: &Place, rng: &mut Rng) -> Call {
-    let files = candidates(both.image(), place);
-    let call = draw::call(&WEIGHTED, both.image(), place, &files, rng);
-    match call.name {
-        Name::Repair => Call { name: Name::REPAIRS[rng.below(2) as usize], ..call },
-        _ => call,
-    }
-}
-
 /// A small partition with its place, fresh or scattered.
 fn start(rng: &mut Rng) -> (Place, Vec<u8>) {
     let most = [20, 20, 20, 20, 150, 150, 400][rng.below(7) as usize];
@@ -53,18 +42,11 @@ fn start(rng: &mut Rng) -> (Place, Vec<u8>) {
     (place, low_bits::perhaps(image, &place, rng))
 }
 
-/// A repair, now and then one that collects.
-fn some_repair(place: &Place, rng: &mut Rng) -> Call {
-    match rng.below(4) {
-        0 => place.collect(rng.number() as u16),
-        _ => place.call(Name::Repair),
-    }
-}
-
 /// One step: a random call under every limit; then it is made whole, or cut and mended by a repair that may itself be
 /// cut first. Answers how many calls that were.
 fn step(both: &mut Both, place: &Place, rng: &mut Rng, tally: &mut Tally) -> u64 {
-    let call = some_call(both, place, rng);
+    let files = candidates(both.image(), place);
+    let call = draw::call(&WEIGHTED, both.image(), place, &files, rng);
     let before = both.clone();
     let answer = every_limit(both, &call);
     tally.add(&call, answer);
@@ -74,24 +56,14 @@ fn step(both: &mut Both, place: &Place, rng: &mut Rng, tally: &mut Tally) -> u64
     }
     *both = before;
     both.call(&call.with_limit(rng.below(answer.made + 1)));
+    let repair = place.call(Name::Repair);
     for _ in 0..rng.below(3) {
-        both.call(&some_repair(place, rng).with_limit(rng.below(place.n)));
+        both.call(&repair.clone().with_limit(rng.below(place.n)));
     }
-    let mended = both.call(&some_repair(place, rng));
+    let mended = both.call(&repair);
     let fine = both.call(&place.call(Name::Check));
     assert!(mended.outcome == REFUSED || fine.outcome == DONE, "{mended:?}, {fine:?}");
     calls + 4
-}
-
-/// The image with any damage, or with a file torn; from then on nothing is changed before a repair collects it.
-fn damaged(image: &[u8], place: &Place, rng: &mut Rng) -> Vec<u8> {
-    let (mut image, files) = (image.to_vec(), candidates(image, place));
-    match files.len() as u32 {
-        0 => damage(&mut image, place, rng),
-        _ if rng.below(3) == 0 => damage(&mut image, place, rng),
-        count => tear(&mut image, place, files[rng.below(count) as usize], rng),
-    }
-    image
 }
 
 #[test]
@@ -104,14 +76,15 @@ fn random_sequences() {
         for _ in 0..40 {
             calls += step(&mut both, &place, &mut rng, &mut tally);
             if rng.below(60) == 0 {
-                both = Both::new(damaged(both.image(), &place, &mut rng));
+                let mut damaged = both.image().to_vec();
+                damage(&mut damaged, &place, &mut rng);
+                both = Both::new(damaged);
             }
         }
     }
     for name in [Name::Create, Name::Write, Name::Describe, Name::Destroy] {
         tally.must_have_all(&[name]);
     }
-    assert!(tally.times(Name::Collect, NEW) > 5 && tally.times(Name::Collect, 0) > 50, "{tally:?}");
 }
 
 /// Random calls on big files, each cut anywhere, and now and then a repair.
@@ -122,7 +95,8 @@ fn random_sequences_on_big_files() {
         let (place, image) = big::some(&mut rng);
         let mut both = Both::new(low_bits::perhaps(image, &place, &mut rng));
         for _ in 0..25 {
-            let call = some_call(&both, &place, &mut rng);
+            let files = candidates(both.image(), &place);
+            let call = draw::call(&WEIGHTED, both.image(), &place, &files, &mut rng);
             let answer = both.call(&Call { drive: place.drive, ..call.clone() });
             tally.add(&call, answer);
             if rng.below(4) == 0 {
@@ -130,7 +104,7 @@ fn random_sequences_on_big_files() {
             }
         }
     }
-    assert!(tally.times(Name::Write, 0) > 30, "{tally:?}");
+    assert!(tally.times(Name::Write, 0) > 50, "{tally:?}");
 }
 
 /// On a sound partition no whole call leaves it unsound.
@@ -141,7 +115,8 @@ fn whole_calls_keep_a_partition_sound() {
         let (place, image) = start(&mut rng);
         let mut both = Both::new(image);
         for _ in 0..100 {
-            let call = some_call(&both, &place, &mut rng);
+            let files = candidates(both.image(), &place);
+            let call = draw::call(&WEIGHTED, both.image(), &place, &files, &mut rng);
             // A repair for another drive would take all files for free blocks.
             both.call(&Call { drive: place.drive, limit: u32::MAX, ..call });
             assert_eq!(both.call(&place.call(Name::Check)).outcome, DONE);

@@ -126,18 +126,6 @@ fn a_conversion_has_a_drive_and_a_number() {
     }
 }
 
-#[test]
-fn a_collect_has_a_kind_and_a_limit() {
-    let with = |arguments: &str| GOOD.replacen("call check 3 1 ", &format!("call {arguments} "), 1);
-    let cases = parse(&with("collect 3 1 65535 7")).expect("a good file");
-    let Step::Call(expected) = &cases[0].steps[1] else { panic!("the call of line 4") };
-    let call = Call::new(Name::Collect, 3, 1).with_number(65_535).with_limit(7);
-    assert_eq!(expected.call, call);
-    for spoilt in ["collect", "collect 3 1 5", "collect 3 1 5 7 0", "collect 3 1 x 7"] {
-        must_fail(&with(spoilt), 4);
-    }
-}
-
 /// A partition with a file of three blocks, 2 to 0 at blocks 4 to 6, and the free blocks 2 and 7.
 const LAID: &str = "case 1 drive 0 records 9 s 1
 partition 7

@@ -70,8 +70,8 @@ def named(name):
     return bytes(22) + bytes([len(name)]) + name + bytes(81 - len(name))
 
 
-def malformed(drive, n=40):
+def malformed(drive):
     """The sample with a file block that says it uses 99 blocks."""
-    image = sample(drive, n)
+    image = sample(drive)
     set_words(image, 2, 8 + 249, 99)
     return image

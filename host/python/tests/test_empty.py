@@ -47,7 +47,6 @@ def changing(image):
         lambda: tapermoss.describe(image, DRIVE, 1, 2, named(b'letter')),
         lambda: tapermoss.destroy(image, DRIVE, 1, 2),
         lambda: tapermoss.repair(image, DRIVE, 1),
-        lambda: tapermoss.collect(image, DRIVE, 1),
     ]
 
 
@@ -84,7 +83,7 @@ class Empty(unittest.TestCase):
             self.assertEqual(tapermoss.extract(image, DRIVE, 1, 2, buffer), 0)
             self.assertEqual(tapermoss.look_up(image, DRIVE, 1, buffer, buffer), Target(2))
             self.assertEqual(list(tapermoss.tree(image, DRIVE, 1, buffer)), [])
-        for place, answer in enumerate([(3, 3), 4, 1, 3, 39, (None, 0, 39)]):
+        for place, answer in enumerate([(3, 3), 4, 1, 3, 39]):
             image = sample(DRIVE, blocks=0)
             self.assertEqual(changing(image)[place](), answer)
             self.assertTrue(tapermoss.check(image, DRIVE, 1))

@@ -108,8 +108,7 @@ class Names(unittest.TestCase):
         named = {tapermoss.Summary: ['files', 'owned', 'free'], tapermoss.Shown: ['view', 'source'],
                  tapermoss.Target: ['lbn'], tapermoss.Row: ['lbn', 'level', 'what', 'name', 'path'],
                  tapermoss.Tree: ['complete'],
-                 tapermoss.Created: ['file', 'made'], tapermoss.Collected: ['file', 'blocks', 'made'],
-                 tapermoss.NameFault: ['rule', 'place', 'found'],
+                 tapermoss.Created: ['file', 'made'], tapermoss.NameFault: ['rule', 'place', 'found'],
                  tapermoss.Refused: ['number', 'block', 'fault'],
                  tapermoss.Answer: [name for name, _ in tapermoss.Answer._fields_]}
         for kind, fields in named.items():
@@ -117,8 +116,7 @@ class Names(unittest.TestCase):
                 self.assertEqual(list(typing.get_type_hints(kind)), fields)
 
     def test_what_is_changed_is_hinted_as_writable(self):
-        for call in (tapermoss.create, tapermoss.write, tapermoss.describe, tapermoss.destroy, tapermoss.repair,
-                     tapermoss.collect):
+        for call in (tapermoss.create, tapermoss.write, tapermoss.describe, tapermoss.destroy, tapermoss.repair):
             self.assertEqual(typing.get_type_hints(call)['image'], tapermoss.Writable)
         for call in (tapermoss.read, tapermoss.extract):
             hints = typing.get_type_hints(call)
@@ -131,8 +129,7 @@ class Names(unittest.TestCase):
 class Arguments(unittest.TestCase):
     def test_too_many_or_too_few_are_a_type_error(self):
         asked = {'lbn_to_pda': [0, 0], 'check': [b'', 0, 1], 'show_pair': [b'', b'', 0, 1, 2, 0],
-                 'tree': [b'', 0, 1, b'', bytearray()], 'write': [bytearray(), 0, 1, 2, 0, b'', 9],
-                 'collect': [bytearray(), 0, 1, 5, 9]}
+                 'tree': [b'', 0, 1, b'', bytearray()], 'write': [bytearray(), 0, 1, 2, 0, b'', 9]}
         for name, arguments in asked.items():
             right = len(arguments)
             for wrong in (arguments + [0], arguments + [b''], arguments + [0] * 9, arguments[:-1], []):

@@ -11,7 +11,7 @@ FOLDER = os.path.join(os.path.dirname(__file__), '..', '..', '..', 'tests', 'wor
 REQUEST_1 = os.path.join(FOLDER, 'request-1.txt')
 #: The calls whose buffer's sum stands in a case, those that change the image, and those that take none.
 SUMMED = {'read', 'description', 'tree'}
-CHANGES = {'create', 'write', 'describe', 'destroy', 'repair', 'collect'}
+CHANGES = {'create', 'write', 'describe', 'destroy', 'repair'}
 CONVERSIONS = {'lbn_to_pda', 'pda_to_lbn', 'lbn_to_lda', 'lda_to_lbn', 'lbn_to_fileid', 'fileid_to_lbn'}
 
 

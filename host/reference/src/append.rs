@@ -4,7 +4,9 @@
 use crate::address::NIL;
 use crate::allocation::{first_free, store_allocation};
 use crate::answer::Refusal;
-use crate::file::File;
+use crate::file::{
+    File, BLOCKS_IN_USE, LAST_ADDRESS, LAST_BLOCK, LAST_NEGATIVE, LAST_NEGATIVE_ADDRESS,
+};
 use crate::image::Partition;
 use crate::index::{place, Level, FIB};
 use crate::plan::Plan;
@@ -77,7 +79,7 @@ impl Append<'_> {
             }
         }
         match relative {
-            FIB => self.new.set_tallies(&mut record, |relative| self.block(relative)),
+            FIB => self.set_tallies(&mut record),
             _ if relative == self.new.last => record.set_data(buffer),
             _ => (),
         }
@@ -91,5 +93,14 @@ impl Append<'_> {
     /// The PDA of the block with this relative number, nil for none.
     fn link(&self, relative: Option<i32>) -> u32 {
         relative.map_or(NIL, |relative| self.partition.image.drive.pda(self.block(relative)))
+    }
+
+    /// Words 249-255 of the FIB. A last negative address that stays keeps its reserved bits.
+    fn set_tallies(&self, fib: &mut Record) {
+        fib.set_data_word(BLOCKS_IN_USE, self.new.blocks_in_use() as u16);
+        fib.set_data_word(LAST_BLOCK, self.new.last as u16);
+        fib.set_lda(LAST_ADDRESS, self.block(self.new.last));
+        fib.set_data_word(LAST_NEGATIVE, self.new.last_negative() as u16);
+        fib.set_lda(LAST_NEGATIVE_ADDRESS, self.block(self.new.last_negative()));
     }
 }

@@ -6,7 +6,10 @@ use crate::address::NIL;
 use crate::allocation::{first_free, store_allocation};
 use crate::answer::{Answer, Refusal};
 use crate::append::append;
-use crate::file::{file_at, File, KIND};
+use crate::file::{file_at, File};
+use crate::file::{
+    BLOCKS_IN_USE, KIND, LAST_ADDRESS, LAST_BLOCK, LAST_NEGATIVE, LAST_NEGATIVE_ADDRESS,
+};
 use crate::image::{Partition, DATA, FREE_TAIL, NUMBER_FREE};
 use crate::index::{FIB, LAST_RELATIVE};
 use crate::name::describable;
@@ -49,7 +52,11 @@ fn empty_file(partition: &Partition, f: u32, kind: u16) -> Record {
     fib.set_previous(NIL);
     fib.clear_data();
     fib.set_data_word(KIND, kind);
-    File { f, last: -1 }.set_tallies(&mut fib, |_| f);
+    fib.set_data_word(BLOCKS_IN_USE, 1);
+    fib.set_data_word(LAST_BLOCK, -1_i16 as u16);
+    fib.set_lda(LAST_ADDRESS, f);
+    fib.set_data_word(LAST_NEGATIVE, FIB as u16);
+    fib.set_lda(LAST_NEGATIVE_ADDRESS, f);
     fib
 }
 

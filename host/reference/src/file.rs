@@ -4,7 +4,6 @@ use crate::address::NIL;
 use crate::answer::Refusal;
 use crate::image::Partition;
 use crate::index::{place, Level, LAST_RELATIVE};
-use crate::record::Record;
 
 pub use crate::index::{direct_word, entry_word, indirect_word, DIRECT, DOUBLE, FIB};
 
@@ -138,16 +137,6 @@ impl File {
             && names(LAST_ADDRESS, self.last_data_block(partition))
             && image.data_signed(self.f, LAST_NEGATIVE) == self.last_negative()
             && names(LAST_NEGATIVE_ADDRESS, self.most_negative_block(partition))
-    }
-
-    /// Sets these words, and 250, in the FIB of a file whose blocks stand where `block` says. An address
-    /// that stays keeps its reserved bits.
-    pub fn set_tallies(&self, fib: &mut Record, block: impl Fn(i32) -> u32) {
-        fib.set_data_word(BLOCKS_IN_USE, self.blocks_in_use() as u16);
-        fib.set_data_word(LAST_BLOCK, self.last as u16);
-        fib.set_lda(LAST_ADDRESS, block(self.last));
-        fib.set_data_word(LAST_NEGATIVE, self.last_negative() as u16);
-        fib.set_lda(LAST_NEGATIVE_ADDRESS, block(self.last_negative()));
     }
 }
 

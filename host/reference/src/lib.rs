@@ -1,8 +1,8 @@
 //! An independent implementation of the rules of document 01 (one partition on a lent volume image),
-//! and of requests 1 (directory names), 2 (low address bits), 4 (big files), 5 (names that can't be typed)
-//! and 6 (the bad file) of document 02. It was written from these two documents, perq.h with the calls of
-//! requests 1 and 6, the decisions that docs/DIRECTORIES.md lists, and those of the issues of requests 5
-//! and 6. Tests and benchmarks compare another library with it.
+//! and of requests 1 (directory names), 2 (low address bits), 4 (big files) and 5 (names that can't be
+//! typed) of document 02. It was written from these two documents, perq.h with the calls of request 1,
+//! the decisions that docs/DIRECTORIES.md lists, and those of request 5's issue. Tests and benchmarks
+//! compare another library with it.
 //!
 //! The calls of the headers are here under the same names without `perq_`. The other public modules
 //! hold the parts they are made of, which tests may also use.
@@ -11,7 +11,6 @@
 pub mod address;
 pub mod answer;
 pub mod changing;
-pub mod collect;
 pub mod directory;
 pub mod file;
 pub mod image;
@@ -36,7 +35,6 @@ pub use address::{fileid_to_lbn, lbn_to_fileid, lbn_to_lda, lbn_to_pda, lda_to_l
 pub use answer::{Answer, ABSENT, DONE, REFUSED};
 pub use changing::{create, describe, destroy, write};
 pub use changing::{plan_create, plan_describe, plan_destroy, plan_write};
-pub use collect::{collect, plan_collect};
 pub use directory::look_up;
 pub use name::name;
 pub use plan::Plan;

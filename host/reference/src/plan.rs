@@ -11,8 +11,7 @@ pub struct Plan {
     pub answer: Answer,
     /// Block and whole record, in document 01's order; empty when refused.
     pub stores: Vec<(u32, [u8; RECORD])>,
-    /// The place in `stores` of the deciding store; `stores.len()` if none decides (repair, collect,
-    /// refusals).
+    /// The place in `stores` of the deciding store; `stores.len()` if none decides (repair, refusals).
     pub deciding: usize,
 }
 

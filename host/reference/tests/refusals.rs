@@ -34,7 +34,6 @@ fn every_call(image: &[u8], drive: u32, s: u32, f: u32, r: u32) -> Vec<Answer> {
         changing(&|image| describe(image, drive, s, f, &described(1), ALL)),
         changing(&|image| destroy(image, drive, s, f, ALL)),
         changing(&|image| repair(image, drive, s, ALL)),
-        changing(&|image| collect(image, drive, s, 1, ALL)),
     ];
     assert!(answers[2].outcome != REFUSED || block == [7; 512]);
     assert!(answers[4].outcome != REFUSED || words == [7; 104]);
@@ -126,8 +125,6 @@ fn four_names_the_lowest_or_f() {
     for at in [0, 2, 3, 4, 5, 6, 7, 8, 9, 10] {
         assert_eq!(answers[at], malformed(4));
     }
-    // Collect never gives it: the first free block, 7, has the one collected block, 4.
-    assert_eq!(answers[11], Answer { a: 7, b: 1, ..made(19) });
     assert_eq!(read(&whole, 0, 2, 3, 0, &mut [0; 512]).outcome, DONE);
     assert_eq!(read(&whole, 0, 2, 4, 40_000, &mut [0; 512]), malformed(4));
     assert_eq!(write(&mut whole, 0, 2, 21, 0, &[0; 512], ALL), malformed(4));
@@ -217,12 +214,10 @@ fn nine_for_no_unowned_block() {
     set_pair(&mut image, 2, 8 + 251, lbn_to_lda(0, 4).a);
     let before = image.clone();
     assert_eq!(repair(&mut image, 0, 1, ALL), refused(9));
-    assert_eq!(collect(&mut image, 0, 1, 7, ALL), refused(9));
     assert_eq!(check(&image, 0, 1), refused(5));
     assert!(image == before);
     set_word(&mut image, 2, 8 + 249, 4);
     assert_eq!(repair(&mut image, 0, 1, ALL), malformed(2));
-    assert_eq!(collect(&mut image, 0, 1, 7, ALL), refused(9));
 }
 
 #[test]

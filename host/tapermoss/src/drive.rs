@@ -26,11 +26,6 @@ pub fn parse(text: &str) -> Result<Drive, String> {
     by_name.or_else(by_number).ok_or_else(|| format!("it is 0 to 3 or one of {}", NAMES.join(", ")))
 }
 
-/// The name that `--drive` takes for it.
-pub fn word(drive: Drive) -> &'static str {
-    NAMES[drive.number() as usize]
-}
-
 /// The drive that has as many blocks as an image of this length.
 pub fn guess(length: usize) -> Option<Drive> {
     Drive::ALL.into_iter().find(|drive| drive.blocks() as usize * RECORD == length)

@@ -1,12 +1,10 @@
 //! The repair of an image's partitions, from its file to the new one: what `repair` and `batch` share.
 
 use crate::asked::Asked;
-use crate::collecting::advised;
-use crate::commands::CommandLine;
 use crate::drive::{the_drive, DriveArguments};
 use crate::image::read;
 use crate::keep::{self, Existing, Like};
-use crate::layout::Layout;
+use crate::layout::{Layout, Place, Standing};
 use crate::lock::{locked, Locked};
 use crate::names::shown;
 use crate::outcome::Outcome;
@@ -26,20 +24,6 @@ pub struct Request {
     pub to: Option<PathBuf>,
     pub wish: Wish,
     pub limit: Option<u32>,
-}
-
-impl Request {
-    /// The command that would collect, for this image.
-    fn collecting(&self, path: &Path) -> CommandLine {
-        let command = CommandLine::of("repair").word("--collect");
-        let command = command.drive(self.drive).partition(self.partition);
-        let command = match &self.to {
-            None => command.word("--in-place"),
-            Some(to) if *to == keep::beside(path, ".repaired") => command,
-            Some(to) => command.word("--output").path(to),
-        };
-        command.path(path)
-    }
 }
 
 /// What came of it.
@@ -72,11 +56,7 @@ pub fn mend(path: &Path, request: &Request) -> Result<Mended, Problem> {
     let rows: Vec<Row> = places
         .iter()
         .map(|place| {
-            let work = || {
-                repair(&mut image, drive, place, request.wish, &mut left).map_err(|problem| {
-                    advised(problem, &image, drive, place, &request.collecting(path))
-                })
-            };
+            let work = || repair(&mut image, drive, place, request.wish, &mut left);
             Row { place: *place, result: place.problem().map_or_else(work, Err) }
         })
         .collect();
@@ -101,7 +81,7 @@ impl Mended {
                 let like = Like::Itself(&original.metadata);
                 self.put(&real(path)?, image, like, Existing::Replaced)
             }
-            Some(to) if keep::is_taken(to) => self.add(to, original, image, request.wish),
+            Some(to) if keep::is_taken(to) => self.add(to, original, image, request.wish.force),
             Some(to) => self.put(to, image, Like::Mode(&original.metadata), Existing::Kept),
         }
     }
@@ -125,13 +105,13 @@ impl Mended {
         to: &Path,
         original: &Locked,
         image: &[u8],
-        wish: Wish,
+        force: bool,
     ) -> Result<(), Problem> {
         let like = Like::Mode(&original.metadata);
         let there = read(to);
         let is_whole =
             self.rows.iter().all(|row| row.outcome() != Outcome::Refused || !row.is_worked());
-        let held = there.as_ref().ok().and_then(|there| self.held(&original.bytes, there, wish));
+        let held = there.as_ref().ok().and_then(|there| self.held(&original.bytes, there));
         match (held, there) {
             (Some(held), Ok(there)) if is_whole => {
                 let sum = self.sum(&there, image);
@@ -142,7 +122,7 @@ impl Mended {
                 self.say_kept(to, &held);
                 self.put(to, &sum, like, Existing::Replaced)
             }
-            _ if wish.force => self.put(to, image, like, Existing::Replaced),
+            _ if force => self.put(to, image, like, Existing::Replaced),
             (Some(_), _) => Err(keep::taken(to)),
             (None, there) => {
                 self.is_taken(to, there.err());
@@ -171,6 +151,32 @@ impl Mended {
             )
         };
         self.notes.extend(kept.into_iter().map(note));
+    }
+
+    /// The partitions that an image has repaired, if that is all in which it differs from the original.
+    fn held(&self, original: &[u8], there: &[u8]) -> Option<Vec<u32>> {
+        if there.len() != original.len() {
+            return None;
+        }
+        let apart = self.layout.partitions().filter(|place| place.standing == Standing::Good);
+        let asked = self.rows.iter().map(|row| &row.place).filter(|place| place.last.is_some());
+        let mut rest = there.to_vec();
+        let mut held = Vec::new();
+        for place in apart.chain(asked) {
+            let part = place.bytes();
+            if rest[part.clone()] != original[part.clone()] {
+                rest[part.clone()].copy_from_slice(&original[part.clone()]);
+                held.push(self.repaired(original, place, &there[part])?);
+            }
+        }
+        (rest == original).then_some(held)
+    }
+
+    /// The partition, if repair makes these bytes of it.
+    fn repaired(&self, original: &[u8], place: &Place, there: &[u8]) -> Option<u32> {
+        let mut image = original.to_vec();
+        perq::repair(&mut image, self.drive, place.s, ALL).ok()?;
+        (image[place.bytes()] == *there).then_some(place.s)
     }
 
     /// The name is another file's, or that of one which cannot be read and so not be compared: what was repaired is written

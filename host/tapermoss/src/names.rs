@@ -18,24 +18,17 @@ fn show(character: char, text: &mut String) {
     match character {
         '\\' => text.push_str("\\\\"),
         '\0'..='\x1f' | '\x7f' => text.push_str(&format!("\\x{:02x}", u32::from(character))),
-        _ if is_plain(character) => text.push(character),
-        _ => text.extend(character.escape_unicode()),
+        // The rest of the control characters, other ends of lines, and what turns the direction of writing.
+        '\u{80}'..='\u{9f}'
+        | '\u{61c}'
+        | '\u{200e}'
+        | '\u{200f}'
+        | '\u{2028}'..='\u{202e}'
+        | '\u{2066}'..='\u{2069}' => {
+            text.extend(character.escape_unicode());
+        }
+        _ => text.push(character),
     }
-}
-
-/// Whether a character neither steers a terminal nor hides a part of a text: no control character, no other end of a line, and
-/// nothing that turns the direction of writing.
-pub fn is_plain(character: char) -> bool {
-    !matches!(
-        character,
-        '\0'..='\x1f'
-            | '\x7f'..='\u{9f}'
-            | '\u{61c}'
-            | '\u{200e}'
-            | '\u{200f}'
-            | '\u{2028}'..='\u{202e}'
-            | '\u{2066}'..='\u{2069}'
-    )
 }
 
 /// The bytes of a name, exactly.

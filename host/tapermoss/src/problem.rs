@@ -15,15 +15,13 @@ pub struct Problem {
     pub block: Option<u32>,
     /// What is wrong with the name, under number 12.
     pub name: Option<NameFault>,
-    /// The command that would collect, where a plain repair is refused under number 4.
-    pub command: Option<String>,
     pub sentence: String,
 }
 
 impl Problem {
     /// One that the library has no number for.
     pub fn new(outcome: Outcome, sentence: String) -> Problem {
-        Problem { outcome, number: None, block: None, name: None, command: None, sentence }
+        Problem { outcome, number: None, block: None, name: None, sentence }
     }
 
     /// A refusal, in words that say more than the library's own.
@@ -38,8 +36,7 @@ impl Problem {
         };
         let number = refusal.number();
         let sentence = format!("refused ({number}): {told}");
-        let refused = Problem::new(Outcome::Refused, sentence);
-        Problem { number: Some(number), block, name, ..refused }
+        Problem { outcome: Outcome::Refused, number: Some(number), block, name, sentence }
     }
 
     pub fn usage(sentence: impl Into<String>) -> Problem {

@@ -1,7 +1,6 @@
 //! What a repair of one partition would do and what it does, in memory.
 
 use crate::asked::Asked;
-use crate::collecting::{no_room, Collecting};
 use crate::drive::told;
 use crate::layout::{Layout, Place, Standing};
 use crate::outcome::Outcome;
@@ -18,46 +17,23 @@ pub struct Wish {
     pub force: bool,
     /// Repair a sound partition too.
     pub anyway: bool,
-    /// Collect what is left of malformed files in a new file of this kind.
-    pub collect: Option<u16>,
 }
 
 /// How a partition stands, and what was done about it.
 #[derive(Clone, Debug)]
 pub struct Held {
-    /// Sound, repaired, or refused where a limit has ended the repair and check refuses what it left.
+    /// Sound, repaired, or refused where a limit has ended the repair and check would refuse what it left.
     pub outcome: Outcome,
-    /// What check says of it now.
-    pub check: Result<Summary, Refusal>,
+    /// What it holds, if it is sound now.
+    pub summary: Option<Summary>,
     /// How many records the repair has changed, and how many stores it made.
     pub changed: u32,
     pub made: u32,
-    /// What came of malformed files, if they were to be collected.
-    pub collecting: Option<Collecting>,
 }
 
 impl Held {
     pub fn sound(summary: Summary) -> Held {
-        let check = Ok(summary);
-        Held { outcome: Outcome::Sound, check, changed: 0, made: 0, collecting: None }
-    }
-
-    /// Why the partition at s is not sound yet: a limit has ended its repair.
-    pub fn cut_short(&self, s: u32) -> Option<Problem> {
-        let refusal = self.check.err()?;
-        let (deed, then) = match self.collecting {
-            None | Some(Collecting::Nothing) => ("its repair", ""),
-            Some(_) => (
-                "the collecting",
-                "; begun again on what is written, it may be refused (9), and what it would then collect is not promised",
-            ),
-        };
-        let told = format!(
-            "the partition at block {s} is not sound yet: the limit ended {deed} after {}, {} changed{then}",
-            counted(self.made, "store"),
-            counted(self.changed, "record")
-        );
-        Some(Problem::refused(refusal, &told))
+        Held { outcome: Outcome::Sound, summary: Some(summary), changed: 0, made: 0 }
     }
 }
 
@@ -76,7 +52,7 @@ pub fn hint(image: &[u8], drive: Drive, s: u32) -> String {
 
 /// What a repair would lose that only a person may give up: blocks of a listed partition, all files, or some of those that
 /// stand there if the drive is another.
-pub fn risk(image: &[u8], drive: Drive, place: &Place) -> Option<String> {
+fn risk(image: &[u8], drive: Drive, place: &Place) -> Option<String> {
     let lost = match place.standing {
         Standing::Overruled { by } => format!("change blocks of the partition at block {by}"),
         _ => loss(image, drive, place.s, place.last?)?,
@@ -84,18 +60,15 @@ pub fn risk(image: &[u8], drive: Drive, place: &Place) -> Option<String> {
     Some(format!("repair would {lost}, so it wants --force"))
 }
 
-/// Where files are malformed the repair is a collecting one, and what is left of them is one file.
 fn loss(image: &[u8], drive: Drive, s: u32, last: u32) -> Option<String> {
-    let survey = volume::survey(image, drive, s).ok()?;
-    let (well, torn) = (survey.files.len() as u32, survey.malformed.len() as u32);
+    let files = volume::files_of(image, drive, s).count() as u32;
     let others = Drive::ALL.into_iter().filter(|&other| other != drive);
     let most = others
         .map(|other| (volume::candidates(image, other, s, last), other))
         .max_by_key(|&(candidates, _)| candidates);
-    let files = well + torn.min(1);
     let left = format!("leave {}", counted(files, "file"));
     match most {
-        Some((candidates, other)) if candidates > well + torn => {
+        Some((candidates, other)) if candidates > files => {
             Some(format!("{left} where {} has {}", told(other), counted(candidates, "file block")))
         }
         _ if files == 0 => Some(left),
@@ -112,11 +85,9 @@ pub fn repair(
     left: &mut u32,
 ) -> Result<Held, Problem> {
     let s = place.s;
-    let found = perq::check(image, drive, s);
-    match found {
+    match perq::check(image, drive, s) {
         Ok(summary) if !wish.anyway => return Ok(Held::sound(summary)),
         Ok(_) | Err(Refusal::Unsound) => {}
-        Err(Refusal::Malformed { .. }) if wish.collect.is_some() => {}
         Err(refusal) => return Err(judged(image, drive, s, refusal)),
     }
     if !wish.force {
@@ -126,34 +97,14 @@ pub fn repair(
         }
     }
     let before = image[place.bytes()].to_vec();
-    let worked = work(image.to_mut(), drive, s, wish, *left);
-    let (made, collecting) = worked.map_err(|refusal| match (refusal, found) {
-        (Refusal::NoFreeBlock, Err(Refusal::Malformed { .. })) => no_room(s),
-        _ => Asked::of(image, drive, s).refused(refusal),
-    })?;
+    let made = perq::repair(image.to_mut(), drive, s, *left)
+        .map_err(|refusal| Asked::of(image, drive, s).refused(refusal))?;
     *left -= made;
     let records = image[place.bytes()].chunks(RECORD).zip(before.chunks(RECORD));
     let changed = records.filter(|(now, before)| now != before).count() as u32;
-    let check = perq::check(image, drive, s);
-    let outcome = if check.is_ok() { Outcome::Repaired } else { Outcome::Refused };
-    Ok(Held { outcome, check, changed, made, collecting })
-}
-
-/// The repair itself, the plain one or the collecting one; answers how many stores it made.
-fn work(
-    image: &mut [u8],
-    drive: Drive,
-    s: u32,
-    wish: Wish,
-    left: u32,
-) -> Result<(u32, Option<Collecting>), Refusal> {
-    match wish.collect {
-        None => Ok((perq::repair(image, drive, s, left)?, None)),
-        Some(kind) => {
-            let collected = perq::collect(image, drive, s, kind, left)?;
-            Ok((collected.made, Some(Collecting::of(image, drive, s, collected))))
-        }
-    }
+    let summary = perq::check(image, drive, s).ok();
+    let outcome = if summary.is_some() { Outcome::Repaired } else { Outcome::Refused };
+    Ok(Held { outcome, summary, changed, made })
 }
 
 /// A refusal of check: a malformed file block is for a person to look at.

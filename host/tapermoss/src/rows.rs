@@ -5,7 +5,7 @@ use crate::outcome::Outcome;
 use crate::problem::Problem;
 use crate::repairing::{self, Held};
 use crate::told::{counted, joined, reported};
-use perq::{Drive, Summary};
+use perq::{Drive, Refusal, Summary};
 use serde_json::{json, Value};
 
 /// One partition.
@@ -34,7 +34,16 @@ impl Row {
     /// Why it is neither sound nor repaired.
     pub fn problem(&self) -> Option<Problem> {
         match &self.result {
-            Ok(held) => held.cut_short(self.place.s),
+            Ok(Held { summary: Some(_), .. }) => None,
+            Ok(Held { made, changed, .. }) => {
+                let told = format!(
+                    "the partition at block {} is not sound yet: the limit ended its repair after {}, {} changed",
+                    self.place.s,
+                    counted(*made, "store"),
+                    counted(*changed, "record")
+                );
+                Some(Problem::refused(Refusal::Unsound, &told))
+            }
             Err(problem) => Some(problem.clone()),
         }
     }
@@ -46,7 +55,7 @@ impl Row {
 
     /// What it holds or why it is not sound, without saying which one it is.
     pub fn remark(&self) -> String {
-        let held = self.result.as_ref().ok().and_then(|held| held.check.ok());
+        let held = self.result.as_ref().ok().and_then(|held| held.summary);
         held.map_or_else(|| self.problem().map_or(String::new(), |it| it.sentence), told)
     }
 
@@ -67,16 +76,13 @@ impl Row {
 
     pub fn as_json(&self) -> Value {
         let held = self.result.as_ref().ok();
-        let summary = held.and_then(|held| held.check.ok());
-        let mut own = json!({
+        let summary = held.and_then(|held| held.summary);
+        let own = json!({
             "files": summary.map(|summary| summary.files),
             "owned": summary.map(|summary| summary.owned),
             "free": summary.map(|summary| summary.free),
             "records_changed": held.map_or(0, |held| held.changed),
         });
-        if let Some(collecting) = held.and_then(|held| held.collecting) {
-            own["collected"] = collecting.as_json();
-        }
         let place = self.place.as_json();
         joined(joined(reported(self.outcome(), self.problem().as_ref()), &place), &own)
     }

@@ -61,21 +61,17 @@ impl From<Problem> for Told {
     }
 }
 
-/// The four fields that every object has: of a command, of an image or of a partition. Under number 12 it has two more, and
-/// where a command would collect what a plain repair refuses, that one.
+/// The four fields that every object has: of a command, of an image or of a partition. Under number 12 it has two more.
 pub fn reported(outcome: Outcome, problem: Option<&Problem>) -> Value {
-    let mut fields = json!({
+    let four = json!({
         "outcome": outcome.name(),
         "number": problem.and_then(|problem| problem.number),
         "block": problem.and_then(|problem| problem.block),
         "sentence": problem.map(|problem| &problem.sentence),
     });
-    if let Some(command) = problem.and_then(|problem| problem.command.as_ref()) {
-        fields["command"] = json!(command);
-    }
     match problem.and_then(|problem| problem.name) {
-        Some(fault) => joined(fields, &of_name(Some(fault))),
-        None => fields,
+        Some(fault) => joined(four, &of_name(Some(fault))),
+        None => four,
     }
 }
 

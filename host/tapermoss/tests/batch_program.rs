@@ -125,12 +125,10 @@ fn report(drive: u32) -> String {
     String::from_utf8(output.stdout).expect("text")
 }
 
-/// A remark without what only one of the two says: where the repaired image is, how many stores it took, or which command
-/// collects.
+/// A remark without what only one of the two says: where the repaired image is, or how many stores it took.
 fn common_part(row: &[String; 3]) -> &str {
     match row[1].as_str() {
         "repaired" => row[2].split_once(": ").expect("what it holds").1,
-        "set aside" => row[2].split("; ").next().expect("a part"),
         _ => &row[2],
     }
 }
@@ -151,7 +149,6 @@ fn the_tool_makes_the_same_choice_of_each_image() {
     for (name, outcome) in OWN_WORDS {
         assert_eq!(by_tool[name][1], outcome, "{name}");
     }
-    assert!(by_tool["torn.img"][2].contains("; `tapermoss repair --collect --drive "));
 }
 
 #[test]

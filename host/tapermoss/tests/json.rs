@@ -123,9 +123,6 @@ fn agree(object: &Value, status: i32) {
     for name in ["name_rule", "name_place"] {
         assert_eq!(object[name].is_u64(), object["number"] == 12, "{object}");
     }
-    let command = object.get("command").map(|command| command.as_str().expect("a text"));
-    let in_sentence = |command: &str| sentence.contains(&format!("`{command}`"));
-    assert!(command.is_none_or(|it| object["number"] == 4 && in_sentence(it)), "{object}");
 }
 
 /// What comes of a line in a folder of its own, with `--json` before and after the command: the same.
@@ -145,7 +142,7 @@ fn of_line(line: &str) -> Value {
 }
 
 /// Each command once at least, when all goes well, with a field of its own.
-const SUCCESSES: [(&str, &str, &str, &str); 28] = [
+const SUCCESSES: [(&str, &str, &str, &str); 26] = [
     ("partitions @disk", "done", "/partitions/0/first", "6"),
     ("check @disk", "sound", "/partitions/0/files", "3"),
     ("files @disk", "done", "/files/2/blocks", "70"),
@@ -171,8 +168,6 @@ const SUCCESSES: [(&str, &str, &str, &str); 28] = [
     ("map @disk", "done", "/files", "3"),
     ("repair @unsound", "repaired", "/partitions/0/files", "3"),
     ("repair @disk", "sound", "/written", "null"),
-    ("repair @malformed --collect", "repaired", "/partitions/0/collected/file", "84"),
-    ("repair @unsound --collect", "repaired", "/partitions/0/collected", "null"),
     ("batch @bare", "done", "/images", "[]"),
     ("create @disk", "done", "/file", "84"),
     ("write @disk --file 7 --from @short", "done", "/blocks", "1"),
@@ -201,7 +196,7 @@ fn every_command_answers_its_success_with_an_object() {
 }
 
 /// What the library refuses or a person must decide, with the number, and the block that is meant under 4 and 11.
-const REFUSALS: [(&str, &str, u64); 39] = [
+const REFUSALS: [(&str, &str, u64); 36] = [
     ("partitions @ragged", "refused", 1),
     ("partitions @empty", "refused", 1),
     ("check @empty", "refused", 1),
@@ -224,9 +219,6 @@ const REFUSALS: [(&str, &str, u64); 39] = [
     ("map @disk --partition 5", "refused", 2),
     ("repair @malformed", "set aside", 4),
     ("repair @full", "refused", 9),
-    ("repair @full --collect", "refused", 9),
-    ("repair @malformed --collect --limit 0", "refused", 4),
-    ("repair @malformed --collect --limit 400", "refused", 5),
     ("repair @disk --partition 5", "refused", 2),
     ("batch @images", "set aside", 4),
     ("create @malformed", "refused", 4),
@@ -261,7 +253,7 @@ fn a_refusal_has_its_number_and_block() {
 }
 
 /// What has no number: the system's failures, names that are taken, and blocks and paths that are not there.
-const OTHERS: [(&str, &str); 31] = [
+const OTHERS: [(&str, &str); 30] = [
     ("partitions @nowhere", "unreadable"),
     ("check @bare", "unreadable"),
     ("files @nowhere", "unreadable"),
@@ -283,7 +275,6 @@ const OTHERS: [(&str, &str); 31] = [
     ("map @disk --output @disk.gif", "wrong use"),
     ("repair @unsound --output @disk", "another file"),
     ("repair @nowhere", "unreadable"),
-    ("repair @malformed --kind 3", "wrong use"),
     ("batch @nowhere", "unreadable"),
     ("batch @disk", "unreadable"),
     ("create @disk --output @full", "another file"),
@@ -305,7 +296,7 @@ fn an_error_has_its_object_too() {
 }
 
 /// Wrong uses that are found before any command runs, with a word that the sentence must have.
-const MISUSES: [(&str, &str); 34] = [
+const MISUSES: [(&str, &str); 33] = [
     ("", "subcommand"),
     ("bogus", "'bogus'"),
     ("partitions", "<IMAGE>"),
@@ -329,7 +320,6 @@ const MISUSES: [(&str, &str); 34] = [
     ("show --original @disk --file 7 --block 0", "--repaired"),
     ("map", "<IMAGE>"),
     ("repair @disk --limit -1", "-1"),
-    ("repair @disk --collect --kind 65536", "65536"),
     ("batch", "<FOLDER>"),
     ("batch @images --jobs 0", "'0'"),
     ("create @disk --kind 65536", "65536"),

@@ -433,8 +433,6 @@ fn errors() -> (Folder, Vec<(Vec<String>, i32)>) {
         ("create @disk --output @odd", 6),
         ("create @disk --force", 0),
         ("repair @malformed", 4),
-        ("repair @malformed --collect --output @collected", 3),
-        ("repair @malformed --kind 3", 2),
         ("repair @unsound --output @disk", 6),
         ("batch @images --force", 3),
         ("batch @nowhere", 5),

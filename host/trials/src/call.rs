@@ -29,7 +29,6 @@ pub enum Name {
     Describe,
     Destroy,
     Repair,
-    Collect,
 }
 
 /// What a call does with an image: it takes none but a number or a description, reads one or changes one.
@@ -64,10 +63,8 @@ impl Name {
     ];
     /// Those of the reading calls that look into directories.
     pub const DIRECTORIES: [Name; 2] = [Name::LookUp, Name::Tree];
-    pub const CHANGING: [Name; 6] =
-        [Name::Create, Name::Write, Name::Describe, Name::Destroy, Name::Repair, Name::Collect];
-    /// Those of the changing calls that mend a partition.
-    pub const REPAIRS: [Name; 2] = [Name::Repair, Name::Collect];
+    pub const CHANGING: [Name; 5] =
+        [Name::Create, Name::Write, Name::Describe, Name::Destroy, Name::Repair];
 
     /// Every call.
     pub fn all() -> impl Iterator<Item = Name> {
@@ -96,7 +93,7 @@ pub struct Call {
     pub s: u32,
     pub f: u32,
     pub r: u32,
-    /// A conversion's number, what next_file goes on after, or the kind of create and of collect.
+    /// A conversion's number, what next_file goes on after, or create's kind.
     pub number: u32,
     pub limit: u32,
     /// The hash rule of look_up and tree.
@@ -206,7 +203,6 @@ macro_rules! changing {
             Name::Describe => $side::describe(image, drive, s, f, buffer, limit),
             Name::Destroy => $side::destroy(image, drive, s, f, limit),
             Name::Repair => $side::repair(image, drive, s, limit),
-            Name::Collect => $side::collect(image, drive, s, number as u16, limit),
             other => unreachable!("{other:?} does not change"),
         }
     }};

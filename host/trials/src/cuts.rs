@@ -14,7 +14,6 @@ pub fn plan(call: &Call, image: &[u8]) -> Plan {
         Name::Describe => reference::plan_describe(image, drive, s, f, buffer),
         Name::Destroy => reference::plan_destroy(image, drive, s, f),
         Name::Repair => reference::plan_repair(image, drive, s),
-        Name::Collect => reference::plan_collect(image, drive, s, number as u16),
         other => panic!("{other:?} does not change"),
     }
 }

@@ -53,11 +53,6 @@ impl Place {
         self.call(Name::Destroy).with_file(f)
     }
 
-    /// A collecting repair whose file, if it makes one, is of this kind.
-    pub fn collect(&self, kind: u16) -> Call {
-        self.call(Name::Collect).with_number(u32::from(kind))
-    }
-
     /// The PDA of a block of this drive.
     pub fn pda(&self, b: u32) -> u32 {
         lbn_to_pda(self.drive, b).a

@@ -3,7 +3,6 @@
 
 #![deny(unsafe_code)]
 
-pub mod bad_file;
 pub mod batch_data;
 pub mod big;
 pub mod both;
@@ -22,7 +21,6 @@ pub mod shapes;
 pub mod sweep;
 pub mod table;
 pub mod tally;
-pub mod torn;
 pub mod trees;
 pub mod worked;
 pub mod worked_file;

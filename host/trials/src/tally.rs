@@ -4,8 +4,8 @@ use crate::call::{Call, Name};
 use reference::{Answer, ABSENT, DONE, REFUSED};
 use std::collections::BTreeMap;
 
-/// How often each call had each outcome: 0 for done, the number for refused, `NONE` for absent, `PART` for part done, `NEW` for
-/// a file that was collected, `BROKEN` plus the rule for a bad name.
+/// How often each call had each outcome: 0 for done, the number for refused, `NONE` for absent, `PART` for part done, `BROKEN`
+/// plus the rule for a bad name.
 #[derive(Clone, Debug, Default)]
 pub struct Tally(BTreeMap<(String, u32), u64>);
 
@@ -13,8 +13,6 @@ pub struct Tally(BTreeMap<(String, u32), u64>);
 pub const NONE: u32 = 100;
 /// Done in a tally, where a path leads to an entry that dangles, or a tree has more entries than rows.
 pub const PART: u32 = 101;
-/// Done in a tally, where collect made a new file.
-pub const NEW: u32 = 102;
 /// Done in a tally, where the name that was asked about breaks a rule; its number is added.
 pub const BROKEN: u32 = 110;
 /// How many rules a name may break.
@@ -25,7 +23,6 @@ impl Tally {
         let outcome = match answer.outcome {
             ABSENT => NONE,
             DONE if Name::DIRECTORIES.contains(&call.name) && answer.b == 1 => PART,
-            DONE if call.name == Name::Collect && answer.a > 0 => NEW,
             DONE if call.name == Name::Name && answer.a > 0 => BROKEN + answer.a,
             DONE => 0,
             _ => answer.number,
@@ -65,7 +62,6 @@ pub fn refusals(name: Name) -> &'static [u32] {
         Name::Describe => &[1, 2, 3, 12, 4, 5, 6],
         Name::Destroy => &[1, 2, 4, 5, 6],
         Name::Repair => &[1, 2, 4, 9],
-        Name::Collect => &[1, 2, 9],
         _ => &[1, 10],
     }
 }
@@ -78,9 +74,6 @@ fn outcomes(name: Name) -> Vec<u32> {
     }
     if Name::DIRECTORIES.contains(&name) {
         outcomes.push(PART);
-    }
-    if name == Name::Collect {
-        outcomes.push(NEW);
     }
     if name == Name::Name {
         outcomes.extend((1..=RULES).map(|rule| BROKEN + rule));

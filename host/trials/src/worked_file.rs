@@ -171,7 +171,6 @@ fn named(name: &str) -> Option<(Name, usize)> {
         "describe" => (Name::Describe, 5),
         "destroy" => (Name::Destroy, 4),
         "repair" => (Name::Repair, 3),
-        "collect" => (Name::Collect, 4),
         _ => return None,
     })
 }
@@ -195,7 +194,7 @@ fn call(name: &str, words: &[&str]) -> Option<Call> {
         Name::Description | Name::Extract => call.with_file(number(2)?).with_buffer(&bytes(3)?),
         Name::LookUp => call.with_rule(&bytes(2)?).with_path(&bytes(3)?),
         Name::Tree => call.with_rule(&bytes(2)?).with_buffer(&bytes(3)?),
-        Name::Create | Name::Collect => call.with_number(number(2)?).with_limit(number(3)?),
+        Name::Create => call.with_number(number(2)?).with_limit(number(3)?),
         Name::Write => {
             let call = call.with_file(number(2)?).with_block(number(3)?);
             call.with_buffer(&bytes(4)?).with_limit(number(5)?)

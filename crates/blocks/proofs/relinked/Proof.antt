@@ -21,7 +21,7 @@ prev-of-requires : tie.Need-prev-of-requires
 prev-of-requires c κs = let h = read c.before in (h.opened, c.before.len.ensures.0, h.here)
 
 content-requires : tie.Need-content-requires
-content-requires c κs = let h = read c.before.before in (omega (arith, c.before.before.before.before.before.before.before.requires.0.within), h.short)
+content-requires c κs = let h = read c.before.before in (omega (arith, c.before.before.before.before.before.before.before.requires.0.lies.within), h.short)
 
 with-pair-requires : tie.Need-with-pair-requires
 with-pair-requires c κs = (omega arith, rw c.before.prev-of.ensures (read c.before.before.before).previous)

@@ -16,7 +16,7 @@ returns c =
     turned_free at.before.before.before.before.before.before.requires at.before.before.before.before.if1.true at.before.before.unowned-from.ensures at.freed.ensures c.before.before.before.saved.ensures.0 c.before.before.step.ensures
 
 relinked-requires : tie.Need-relinked-requires
-relinked-requires c κs = (c.before.before.before.requires.ready.lies, c.before.before.before.requires.high, turn_mine c.before.before.before.requires c.before.if1.false)
+relinked-requires c κs = (c.before.before.before.requires.ready, c.before.before.before.requires.high, turn_mine c.before.before.before.requires c.before.if1.false)
 
 returns-2 : tie.Need-returns-2
 returns-2 c =

@@ -5,7 +5,6 @@ pub mod directories;
 pub mod double;
 pub mod low_bits;
 pub mod names;
-pub mod torn;
 
 use reference::*;
 

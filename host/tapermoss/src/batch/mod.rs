@@ -31,8 +31,7 @@ partitions repaired. One that is there already is compared with what repair make
 What comes of an image is what comes of its worst partition, and the exit status is that of the worst image:
   sound         0  every partition is sound
   repaired      3  IMAGE.repaired holds the image with its partitions sound
-  set aside     4  a person must look: a malformed file block (the command that collects what is left of it is named), files
-                   that repair would lose, partitions that share blocks
+  set aside     4  a person must look: a malformed file block, files that repair would lose, partitions that share blocks
   another file  6  IMAGE.repaired is there and is not this image's repair; both are kept
   refused       1  the library refuses: no image, no good partition, no free block
   wrong use     2  the drive is not known, or not the one that was named
@@ -92,7 +91,7 @@ fn judge(arguments: &Arguments, name: &OsString) -> Judged {
         drive: arguments.drive,
         partition: None,
         to: Some(keep::beside(&path, ".repaired")),
-        wish: Wish { force: arguments.force, anyway: false, collect: None },
+        wish: Wish { force: arguments.force, anyway: false },
         limit: None,
     };
     let failed = || {

@@ -124,17 +124,6 @@ impl Folder {
     }
 }
 
-impl Folder {
-    /// The same, for names that are no text.
-    pub fn names_as_bytes(&self) -> Vec<Vec<u8>> {
-        let entries = fs::read_dir(&self.0).expect("the folder is there");
-        let mut names: Vec<Vec<u8>> =
-            entries.map(|entry| entry.expect("an entry").file_name().as_bytes().to_vec()).collect();
-        names.sort();
-        names
-    }
-}
-
 impl AsRef<Path> for Folder {
     fn as_ref(&self) -> &Path {
         &self.0

@@ -17,7 +17,7 @@ use trials::draw::{self, candidates};
 use trials::guard::{Guarded, Side};
 use trials::images::{set_pair, shuffled, some_lengths, Place, DATA_WORD};
 use trials::low_bits;
-use trials::tally::{Tally, NEW};
+use trials::tally::Tally;
 use trials::trees::{some_tree, Planted};
 
 const RECORD: usize = 528;
@@ -144,10 +144,5 @@ fn main() {
     println!("fuzz: {calls} calls on {rounds} images, all as the reference has them");
     let described = [0, 12].map(|outcome| tally.times(Name::Describe, outcome));
     println!("fuzz: {} files described, {} names refused", described[0], described[1]);
-    let collected = [NEW, 0, 9].map(|outcome| tally.times(Name::Collect, outcome));
-    println!(
-        "fuzz: {} bad files made, {} times none to make, {} times no room",
-        collected[0], collected[1], collected[2]
-    );
     println!("1 passed, 0 failed");
 }

@@ -2,7 +2,6 @@
 //! ratios of one run. `bench once WHAT M` makes calls of one kind only, for a tool that counts instructions around them.
 
 mod checks;
-mod collects;
 mod conversions;
 mod measure;
 mod once;
@@ -27,6 +26,5 @@ fn main() {
     others::extracts();
     others::directories();
     others::repairs();
-    collects::collects();
     checks::checks();
 }

@@ -1,6 +1,5 @@
 //! Calls of one kind on one image, for a tool that counts the instructions inside of them.
 
-use crate::collects::torn;
 use crate::conversions::{blocks, pdas};
 use crate::others::{one_file, two_thousand_entries, LAST_PATH};
 use crate::DRIVE;
@@ -11,7 +10,7 @@ use trials::shapes::Shape;
 
 /// What can be asked for.
 pub const WHATS: &str =
-    "one, long, short, empty, free, repair, collect, nothing, extract, tree, look_up, decode or encode";
+    "one, long, short, empty, free, repair, extract, tree, look_up, decode or encode";
 
 /// Check is made by the library and by the plain C check, each once. Decode and encode go through the first m blocks of
 /// the drive.
@@ -44,9 +43,6 @@ fn other(what: &str, m: u32) -> raw::Answer {
     let mut buffer = vec![0; 512 * m as usize];
     match what {
         "repair" => raw::repair(&mut Shape::Long.image(DRIVE, m), DRIVE, 1, u32::MAX),
-        "collect" => raw::collect(&mut torn(m), DRIVE, 1, 0, u32::MAX),
-        // Collect where no file is torn.
-        "nothing" => raw::collect(&mut Shape::Long.image(DRIVE, m), DRIVE, 1, 0, u32::MAX),
         "extract" => raw::extract(&one_file(m), DRIVE, 1, 2, &mut buffer),
         "tree" => raw::tree(&two_thousand_entries(), DRIVE, 1, &[], &mut buffer[..32 * m as usize]),
         "look_up" => raw::look_up(&two_thousand_entries(), DRIVE, 1, &[], LAST_PATH),

@@ -1,9 +1,0 @@
-pub mod Run
-pub mod Records
-pub mod Ranks
-pub mod Turns
-pub mod Blocks
-pub mod RunLaws
-pub mod Entries
-pub mod Bodies
-pub mod Made
