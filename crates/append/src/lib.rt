@@ -1,4 +1,6 @@
 // The records and the stores of a write of the block behind the last.
+#![tactic(auto)]
+
 ghost use Rattle.std.specs.Prelude.{◌≡◌, true, map, ◌∷◌, [], ◌+◌, ◌<◌, length};
 ghost use Rattle.base.specs.Tests.{pick};
 ghost use Rattle.drive.specs.Address.{lda};
@@ -22,7 +24,7 @@ pub mod place; // place.rt: blocks and links by key
 
 // A write of the block behind the last, in the partition p: the file f of n blocks; m how many blocks are taken, a the new data block, q
 // the new pointer block over it and d the new -2 or -3, where these are new; g the first free block afterwards.
-#[derive(Drop)]
+#[derive(Clone, Copy)]
 pub struct Append {
     pub p: Partition,
     pub f: usize,

@@ -1,10 +1,12 @@
 // What every crate speaks of: why a call is refused. The tests and lists of specs/ are the words of all definitions.
+#![tactic(auto)]
+
 ghost use Rattle.std.specs.Prelude.{◌≡◌};
 ghost use Rattle.base.specs.Refusals.{number, culprit};
 
 // Why a call is refused, in the order of its numbers (docs/FORMAT.md, 7.3). A malformed candidate and a directory of the tenth level
 // are named by their LBN.
-#[derive(Drop)]
+#[derive(Clone, Copy)]
 pub enum Refusal {
     BadImage,
     BadPartition,

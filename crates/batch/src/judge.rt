@@ -11,7 +11,7 @@ pub const RECORD: usize = 528;
 const LONGEST: usize = 24 * RECORD;
 
 // What is found of a file: the verdict on its only partition; or that it has several, is longer than this program takes, or is not read.
-#[derive(Drop)]
+#[derive(Clone, Copy)]
 pub enum Finding {
     Came(Verdict),
     Several,
@@ -20,7 +20,7 @@ pub enum Finding {
 }
 
 // A finding, with the image's bytes and its partition's first block, each 0 where it is not known.
-#[derive(Drop)]
+#[derive(Clone, Copy)]
 pub struct Judged {
     pub length: usize,
     pub s: usize,
@@ -28,7 +28,7 @@ pub struct Judged {
 }
 
 // The first block of the only good partition, or 0, which names none; or several.
-#[derive(Drop)]
+#[derive(Clone, Copy)]
 enum Place {
     At(usize),
     Several,

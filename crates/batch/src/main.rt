@@ -1,6 +1,8 @@
 // What `tapermoss batch` does for a folder, done for small images: sound ones are left, unsound ones repaired in memory, those with a
 // malformed file block set aside for a person, and the rest refused. Its words come in twos: an image's file and its drive. No file is
 // written, and one that is bad does not stop the rest. The words of the report are those of the tool.
+#![tactic(auto)]
+
 ghost use Rattle.std.specs.Prelude.{◌<◌};
 
 use crate::judge::Finding;
@@ -9,7 +11,7 @@ mod judge; // judge.rt: what comes of an image
 mod table; // table.rt: the report
 
 // How many images had each outcome.
-#[derive(Drop)]
+#[derive(Clone, Copy)]
 struct Counts {
     pub sound: usize,
     pub repaired: usize,

@@ -1,4 +1,6 @@
 // The record that repair stores in each block, made of the image as it is: an unowned block's, an owned block's and the PIB's.
+#![tactic(auto)]
+
 ghost use Rattle.std.specs.Prelude.{◌≡◌, true, ◌+◌, ◌*◌, ◌≤◌, ◌<◌, length};
 ghost use Rattle.drive.specs.Address.{or_nil};
 ghost use Rattle.image.specs.View.{put, put2};

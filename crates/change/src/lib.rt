@@ -1,5 +1,7 @@
 // The changing calls create and describe, and the gate that every changing call goes through. A call reads the unchanged image, plans
 // its records, and then makes its stores.
+#![tactic(auto)]
+
 ghost use Rattle.std.specs.Prelude.{◌≡◌, ◌<◌, length};
 ghost use Rattle.image.specs.Image.{view};
 ghost use Rattle.image.specs.Saves.{words};

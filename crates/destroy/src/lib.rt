@@ -1,4 +1,6 @@
 // The changing call destroy: the file's blocks go to the end of the free chain.
+#![tactic(auto)]
+
 ghost use Rattle.image.specs.Image.{view};
 ghost use Rattle.volume.specs.Calls.{destroy_in, Answered, planned, destroy};
 ghost use Rattle.change.specs.Gate.{Opens};

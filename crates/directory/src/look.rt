@@ -106,7 +106,7 @@ fn looked_as(x: Looked) -> Outcome
 }
 
 // Look up in the partition s to e.
-pub fn look_in_spec(img: &[u8], p: Partition, rule: &[u8], path: &[u8]) -> Outcome
+pub fn look_in(img: &[u8], p: Partition, rule: &[u8], path: &[u8]) -> Outcome
     requires { Lies p img.now }
     ensures { result ≡ look_in p img.now rule.now path.now }
 {

@@ -1,4 +1,6 @@
 // Addresses of blocks on the four drives. An address of two words is one number, low word + 65536 * high word.
+#![tactic(auto)]
+
 ghost use Rattle.std.specs.Prelude.{◌≡◌, ◌-◌, ◌*◌, ◌/◌, ◌%◌, ◌<◌, ◌≤◌, ltb, eqb};
 ghost use Rattle.drive.specs.Code.{place_number};
 ghost use Rattle.drive.specs.Rows.{pda_code, micropolis};
@@ -13,7 +15,7 @@ use place::{boot, place};
 mod place; // place.rt: the place that a physical address names
 
 // What a conversion answers.
-#[derive(Drop)]
+#[derive(Clone, Copy)]
 pub enum Converted {
     Number(usize),
     Refused(Refusal),

@@ -1,4 +1,6 @@
 // The records and the stores of destroy.
+#![tactic(auto)]
+
 ghost use Rattle.std.specs.Prelude.{◌≡◌, ◌∷◌, [], ◌<◌};
 ghost use Rattle.drive.specs.Address.{pda};
 ghost use Rattle.image.specs.View.{pair, put2};
@@ -14,7 +16,7 @@ use volume::words::{FILLER, FREE_TAIL, NEXT, NUMBER_FREE, PREVIOUS, SERIAL};
 
 // What destroy releases: the file f with n blocks in use, the first in link order `top` and the last `last`; h is FreeHead's block and
 // `tail` FreeTail's. `alone`: the first is the FIB; `empty`: the last is.
-#[derive(Drop)]
+#[derive(Clone, Copy)]
 pub struct Release {
     pub f: usize,
     pub alone: bool,

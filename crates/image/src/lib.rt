@@ -1,4 +1,6 @@
 // Records of 528 bytes: their words, whole records copied out, changed and stored, and runs of stores under a limit.
+#![tactic(auto)]
+
 ghost use Rattle.std.specs.Prelude.{◌≡◌, true, false, ◌++◌, [], ◌+◌, ◌*◌, ◌-◌, ◌<◌, ◌≤◌, length, drop};
 ghost use Rattle.std.specs.Int.{w16};
 ghost use Rattle.std.proofs.Common.{SFits};
@@ -68,7 +70,7 @@ pub fn record(img: &[u8], b: usize) -> [u8; 528]
     let at = 528 * b;
     let end = at + 528;
     let mut r = [0u8; 528];
-    bytes::copy(&img[at..end], &mut r);
+    r.copy_from_slice(&img[at..end]);
     r
 }
 
@@ -78,7 +80,7 @@ pub fn put_at(buf: &mut [u8], at: usize, src: &[u8])
     ensures { buf.new ≡ lay buf.old at src.now }
 {
     let end = at + src.len();
-    bytes::copy(src, &mut buf[at..end]);
+    buf[at..end].copy_from_slice(src);
 }
 
 // A record of zeros.
@@ -122,7 +124,7 @@ pub fn with_data(r: [u8; 528], d: &[u8]) -> [u8; 528]
     ensures { rec_of result ≡ with_data (words d.now) (rec_of r) }
 {
     let mut x = r;
-    bytes::copy(d, &mut x[16..]);
+    x[16..].copy_from_slice(d);
     x
 }
 
@@ -132,7 +134,7 @@ pub fn with_text(r: [u8; 528], d: &[u8]) -> [u8; 528]
     ensures { rec_of result ≡ with_text (words d.now) (rec_of r) }
 {
     let mut x = r;
-    bytes::copy(d, &mut x[16..120]);
+    x[16..120].copy_from_slice(d);
     x
 }
 
@@ -141,7 +143,7 @@ fn store(part: &mut [u8], r: &[u8])
     requires { (528 ≤ length part.old) × (length r.now ≡ 528) }
     ensures { part.new ≡ bytes_of (rec_of r.now) ++ drop 528 part.old }
 {
-    bytes::copy(r, part);
+    part[..528].copy_from_slice(r);
 }
 
 // Writes the record r as record b.
@@ -154,7 +156,7 @@ pub fn store_at(img: &mut [u8], b: usize, r: [u8; 528])
 }
 
 // A whole record to store in a block, where `on` holds.
-#[derive(Drop)]
+#[derive(Clone, Copy)]
 pub struct Save {
     pub on: bool,
     pub at: usize,

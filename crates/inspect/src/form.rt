@@ -93,7 +93,7 @@ pub fn well_formed(img: &[u8], p: Partition, f: usize) -> bool
     if !numbers::last_good(l) {
         return false;
     }
-    let n = numbers::blocks_to_is(l);
+    let n = numbers::blocks_to(l);
     if !index::index_good(img, p, f, n) {
         return false;
     }

@@ -23,7 +23,7 @@ pub fn len(img: &[u8], f: usize) -> usize
     requires { (528 * f + 528 ≤ length img.now) × (len (view img.now) f ≤ reach) }
     ensures { (result ≡ len (view img.now) f) × (result ≤ 32767) }
 {
-    numbers::blocks_to_is(image::signed_word(img, f, LAST_BLOCK))
+    numbers::blocks_to(image::signed_word(img, f, LAST_BLOCK))
 }
 
 // Whether the LDA x is that of a block of the partition with the serial `own` and the relative number n.

@@ -1,4 +1,6 @@
 // Code that reads: the partition, candidates, and well formed files.
+#![tactic(auto)]
+
 ghost use Rattle.std.specs.Prelude.{◌≡◌, ◌+◌, ◌*◌, ◌≤◌, ◌<◌, length};
 ghost use Rattle.image.specs.Image.{view};
 ghost use Rattle.volume.specs.Files.{candidate, is_file, is_malformed};
@@ -20,7 +22,7 @@ pub use keys::{
     FIRST, HOME, POINTER, REACH, entries_of, has_key, low, nearest, next_key, prev_key, size_of,
     slot, stays, up,
 };
-pub use numbers::{blocks_to_is, has_number, is_number, key_of, last_good, number_of};
+pub use numbers::{blocks_to, has_number, is_number, key_of, last_good, number_of};
 
 // Whether the drive is known and n bytes are an image for it.
 pub fn image_good(drive: usize, n: usize) -> bool

@@ -61,7 +61,7 @@ pub fn last_good(l: i32) -> bool
 }
 
 // L + 1, for such an L.
-pub fn blocks_to_is(l: i32) -> usize
+pub fn blocks_to(l: i32) -> usize
     requires { last_good l ≡ true }
     ensures { (result ≡ blocks_to l) × (result ≤ 32767) }
 {

@@ -1,5 +1,7 @@
 // Names that can be typed: whether a description's name is good, as describe wants it, and the call `name`, which says the rule that a
 // name breaks and where.
+#![tactic(auto)]
+
 ghost use Rattle.std.specs.Prelude.{◌≡◌, ◌≤◌, ◌<◌, length};
 ghost use Rattle.volume.specs.Names.{control, reserved, good_length, name_length, has, final, dots, broken, good_name, first_broken, name_answer};
 ghost use Rattle.volume.specs.Calls.{lent_text};

@@ -1,4 +1,6 @@
 // The library's calls as include/perq.h declares them. Each is thin: the call itself stands in a crate below, with the same contract.
+#![tactic(auto)]
+
 ghost use Rattle.std.specs.Prelude.{◌≡◌, ◌<◌};
 ghost use Rattle.base.specs.Refusals.{number, culprit};
 ghost use Rattle.drive.specs.Answers.{lbn_to_pda, pda_to_lbn, lbn_to_lda, lda_to_lbn, lbn_to_file_id, file_id_to_lbn};
@@ -16,7 +18,7 @@ mod reads; // reads.rt: the calls that change nothing
 
 // An answer as seven numbers: see include/perq.h.
 #[repr(C)]
-#[derive(Drop)]
+#[derive(Clone, Copy)]
 pub struct PerqAnswer {
     pub outcome: u32,
     pub number: u32,

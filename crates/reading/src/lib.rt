@@ -1,4 +1,6 @@
 // Reading into a caller's buffer: a block, a description. A refused call leaves the buffer as it is.
+#![tactic(auto)]
+
 ghost use Rattle.std.specs.Prelude.{◌≡◌, length};
 ghost use Rattle.volume.specs.Answers.{read_from, plain, read_into, described_as, described_into};
 
@@ -10,7 +12,7 @@ pub fn put(buf: &mut [u8], src: &[u8])
     requires { length buf.old ≡ length src.now }
     ensures { buf.new ≡ src.now }
 {
-    bytes::copy(src, buf);
+    buf.copy_from_slice(src);
 }
 
 // Where the block that is to be read stands, for a buffer of n bytes.

@@ -1,5 +1,7 @@
 // The records that the changing calls store, each built from the unchanged image, and the stores of each call. Blocks and counts are
 // plain numbers here: which ones a call takes is decided by its caller.
+#![tactic(auto)]
+
 ghost use Rattle.std.specs.Prelude.{◌≡◌, ◌∷◌, [], ◌<◌, length};
 ghost use Rattle.drive.specs.Address.{pda, lda};
 ghost use Rattle.image.specs.Image.{view};

@@ -1,5 +1,7 @@
 // Repair: every file is linked again, the unowned blocks are chained in ascending order, and the PIB follows. It stores as it goes, so
 // each record is made of the partly repaired image, and its stores are those of the image as it was all the same.
+#![tactic(auto)]
+
 ghost use Rattle.std.specs.Prelude.{◌≡◌, suc, ◌-◌};
 ghost use Rattle.base.specs.Tests.{those, head_of};
 ghost use Rattle.image.specs.Image.{view};
@@ -14,7 +16,7 @@ use volume::{Answer, Found, Outcome, Part, Partition};
 
 // How far repair has come: the stores that the limit leaves, the last unowned block passed and the first one ahead, each 0 if there is
 // none, and how many unowned blocks were passed.
-#[derive(Drop)]
+#[derive(Clone, Copy)]
 struct Progress {
     pub left: usize,
     pub last: usize,

@@ -1,5 +1,7 @@
 // The tree of a partition's directories: a row of 32 bytes for each entry. Walked once without rows, since a refused call leaves
 // them as they are, and then once more to fill them.
+#![tactic(auto)]
+
 ghost use Rattle.std.specs.Prelude.{◌≡◌, true, ◌*◌, ◌≤◌, ◌<◌, length};
 ghost use Rattle.image.specs.Image.{view};
 ghost use Rattle.volume.specs.Files.{is_file};

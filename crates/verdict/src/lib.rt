@@ -1,5 +1,7 @@
 // What comes of a partition by what check answers: it is left, repaired and checked again, set aside for a person, or refused. The image
 // is changed by a repair only.
+#![tactic(auto)]
+
 ghost use Rattle.std.specs.Prelude.{◌≡◌};
 ghost use Rattle.verdict.specs.Choice.{refusal, choice, mended, repaired, settled};
 
@@ -11,7 +13,7 @@ const ALL: usize = 32768;
 
 // What is to be done about a partition: leave it, with its files, owned blocks and free blocks; repair it; set it aside with the block
 // that a person must look at; or refuse it.
-#[derive(Drop)]
+#[derive(Clone, Copy)]
 pub enum Course {
     Leave(usize, usize, usize),
     Repair,
@@ -21,7 +23,7 @@ pub enum Course {
 
 // The verdict on a partition: sound, or repaired by so many stores, with files, owned blocks and free blocks; set aside with a block; or
 // refused by a number of the library.
-#[derive(Drop)]
+#[derive(Clone, Copy)]
 pub enum Verdict {
     Sound(usize, usize, usize),
     Repaired(usize, usize, usize, usize),

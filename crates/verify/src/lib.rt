@@ -1,4 +1,6 @@
 // Code that decides soundness: the walk of the free chain, one pass over the blocks and the files among them, and check.
+#![tactic(auto)]
+
 ghost use Rattle.std.specs.Prelude.{◌≡◌, false, ◌+◌, ◌-◌, ◌≤◌, ◌<◌};
 ghost use Rattle.base.specs.Tests.{all};
 ghost use Rattle.base.specs.Sums.{sum};
@@ -14,7 +16,7 @@ use volume::words::{FREE_HEAD, FREE_TAIL, NEXT, NUMBER_FREE, PREVIOUS};
 use volume::{Found, Outcome, Part, Partition};
 
 // Where the free chain goes from a block: nowhere by a wrong link, to its end, or on to a block.
-#[derive(Drop)]
+#[derive(Clone, Copy)]
 pub enum Step {
     Bad,
     End,
@@ -22,21 +24,21 @@ pub enum Step {
 }
 
 // What a walk of the free chain finds: the block with the first wrong link, or how many blocks and the last.
-#[derive(Drop)]
+#[derive(Clone, Copy)]
 pub enum Walk {
     Wrong(usize),
     Free(usize, usize),
 }
 
 // How a candidate stands: a file of so many blocks that are linked, or not well formed or not linked.
-#[derive(Drop)]
+#[derive(Clone, Copy)]
 pub enum Standing {
     Faulty,
     File(usize),
 }
 
 // What a pass over the blocks finds: a faulty candidate, or how many files there are and how many blocks they have.
-#[derive(Drop)]
+#[derive(Clone, Copy)]
 pub enum Survey {
     Faulty,
     Linked(usize, usize),

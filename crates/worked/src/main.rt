@@ -1,5 +1,7 @@
 // The worked example M12 of the rules, run with the library's own calls: a fresh partition of seven blocks on drive 0, a file of two
 // blocks, the second append cut after each of its stores and repaired, and the file destroyed.
+#![tactic(auto)]
+
 ghost use Rattle.std.specs.Prelude.{◌<◌};
 
 use volume::Outcome;

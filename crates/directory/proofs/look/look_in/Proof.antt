@@ -3,8 +3,8 @@ use borrow.Author.Tests.{not-true, not-false}
 use Rattle.directory.specs.Directory as defs
 use Rattle.directory.specs.Entries.{file_at_is}
 use borrow.Author.Rules.{rules}
-use Rattle.directory.proofs.look.look_in_spec.Statement.{statement}
-use Rattle.directory.proofs.look.look_in_spec.Tie as tie
+use Rattle.directory.proofs.look.look_in.Statement.{statement}
+use Rattle.directory.proofs.look.look_in.Tie as tie
 
 returns : tie.Need-returns
 unfolding defs.lookIn

@@ -1,8 +1,8 @@
 use mathlib.Core.Path.{refl}
 use native.Mathlib.Omega.{arith}
 use Rattle.inspect.proofs.Signs.{next_few, next_fits, next_is}
-use Rattle.inspect.proofs.numbers.blocks_to_is.Statement.{statement}
-use Rattle.inspect.proofs.numbers.blocks_to_is.Tie as tie
+use Rattle.inspect.proofs.numbers.blocks_to.Statement.{statement}
+use Rattle.inspect.proofs.numbers.blocks_to.Tie as tie
 
 add-result : tie.Need-overflow-add-result
 add-result c = next_fits _ c.ranges.l c.requires
