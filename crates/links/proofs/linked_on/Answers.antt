@@ -17,11 +17,37 @@ use Rattle.links.proofs.linked_on.Goals as goal
 
 -- the turn, where the next key is known: the ways by which the tail is good have met
 
+turn : (c : goal.After-next_key-j) → (let a = c.args in let w = c.loop-k in Turn a.p a.img.now a.f w.k w.before w.b w.own_val c.next_key-j.result)
+turn c =
+    let pre = c.requires in
+    let g = c.loop-k.invariant.0 in
+    record {
+      at = g;
+      tailed = ⊎_elim (λ w. tails_are _ _ _ c.loop-k.k (omega (arith, w.0.taken)) pre.1 g.here w.1.ensures ∙ not-false _ w.2.left) (λ w. tails_none _ _ _ c.loop-k.k (omega (arith, w.left))) c.if-k-lt-HOME.branch;
+      next = next_is pre.0 pre.1 _ g.there c.next_key-j.ensures;
+    }
+
 -- the next key is present
+
+there : (c : goal.After-stays) → (let a = c.args in present a.p (view a.img.now) a.f c.next_key-j.result ≡ true)
+there c = next_there c.requires.0 (turn c.before.before) c.if-j-eq0.false
 
 -- the block that names it, where that stays
 
+kept : (c : goal.After-stays) → c.stays.result ≡ true → (let a = c.args in c.loop-k.q ≡ spot a.p (view a.img.now) a.f (up c.next_key-j.result))
+kept c s = held_on _ _ _ c.args.n _ c.loop-k.invariant.1 c.next_key-j.ensures (sym c.stays.ensures ∙ s)
+
 -- both ways have met: the next key's block, and the one that names it
+
+fetched : (c : goal.Joined-stays) → (let a = c.args in (c.if-stays.c ≡ spot a.p (view a.img.now) a.f c.next_key-j.result) × (c.if-stays.c ≤ a.p.e))
+fetched c =
+    ⊎_elim
+    (λ w. read_on c.requires.0 _ (there c.before) (sym c.stays.ensures ∙ w.0.taken) (kept c.before w.0.taken) (w.3 ∙ w.1.ensures))
+    (λ w. (w.4 ∙ w.2.ensures.0, rw w.4 w.2.ensures.1))
+    c.if-stays.branch
+
+held : (c : goal.Joined-stays) → (let a = c.args in c.if-stays.q ≡ spot a.p (view a.img.now) a.f (up c.next_key-j.result))
+held c = ⊎_elim (λ w. w.2 ∙ kept c.before w.0.taken) (λ w. w.3 ∙ w.1.ensures.0) c.if-stays.branch
 
 pub low-k-requires : goal.low-k-requires
 low-k-requires c = let pre = c.requires in len_few pre.0 pre.1

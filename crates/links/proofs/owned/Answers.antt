@@ -27,7 +27,7 @@ returns-then-not-has_key c =
     let f = c.block_of-f.ensures.0 in
     let k = c.key_in-k.ensures.0 in
     let yes = sym c.candidate.ensures ∙ not-false _ c.if-not-candidate.false-raw in
-    let has = has_is (opened pre.0 pre.2 _ yes) c.len-n.ensures.0 _ c.has_key_lem.ensures in
+    let has = has_is (opened pre.0 pre.2 _ yes) c.len-n.ensures.0 _ c.has_key.ensures in
     owned_absent _ _ _ _ x _ f yes _ k (has ∙ not-true _ c.if-not-has_key.true-raw)
 
 pub spot-requires : goal.spot-requires
@@ -35,7 +35,7 @@ spot-requires c =
     let pre = c.requires in
     let yes = sym c.candidate.ensures ∙ not-false _ c.if-not-candidate.false-raw in
     let o = opened pre.0 pre.2 _ yes in
-    (o, has_is o c.len-n.ensures.0 _ c.has_key_lem.ensures ∙ not-false _ c.if-not-has_key.false-raw)
+    (o, has_is o c.len-n.ensures.0 _ c.has_key.ensures ∙ not-false _ c.if-not-has_key.false-raw)
 
 pub returns : goal.returns
 returns c =
@@ -44,6 +44,6 @@ returns c =
     let f = c.block_of-f.ensures.0 in
     let k = c.key_in-k.ensures.0 in
     let yes = sym c.candidate.ensures ∙ not-false _ c.if-not-candidate.false-raw in
-    let has = has_is (opened pre.0 pre.2 _ yes) c.len-n.ensures.0 _ c.has_key_lem.ensures ∙ not-false _ c.if-not-has_key.false-raw in
+    let has = has_is (opened pre.0 pre.2 _ yes) c.len-n.ensures.0 _ c.has_key.ensures ∙ not-false _ c.if-not-has_key.false-raw in
     tells_equal _ c.spot.result c.args.b (λ h. omega (arith, eqb-true)) (λ h z. omega (arith, eqb-false))
     ∙ owned_here _ _ _ _ x _ f yes _ k (is_file_of _ _ pre.2 _ yes) has c.spot.ensures.0

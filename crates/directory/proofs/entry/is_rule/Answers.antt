@@ -3,5 +3,5 @@ use Rattle.directory.specs.Directory as defs
 use Rattle.directory.proofs.entry.is_rule.Goals as goal
 
 pub returns : goal.returns
-unfolding defs.isRule
+unfolding defs.is_rule
 returns c = refl

@@ -6,10 +6,6 @@ use Rattle.directory.specs.Paths.{find_starts, find_to, find_hit, find_next}
 use Rattle.inspect.proofs.Laws.{opened_len}
 use Rattle.directory.proofs.find.find.Goals as goal
 
-has_name_requires :
-    tie.Need-has-name-requires invariant-loop2 decreases-loop2 invariant-loop decreases-loop
-has_name_requires c κs = ((let i = c.before.before.before.before.before.before.before.before.before.requires.0.lies.within in let n = c.before.before.name.ensures.1 in let t = c.loop2-test.true in omega arith), c.before.before.before.before.before.before.before.before.before.requires.1)
-
 pub loop-r-init : goal.loop-r-init
 loop-r-init c = (find_starts _ _ _ _ _ _ c.len-k.ensures.0, omega arith)
 
@@ -33,6 +29,9 @@ overflow_mul-i c = let i = c.requires.0.lies.within in let n = c.name-b.ensures.
 
 pub overflow_add-b-in-loop-i : goal.overflow_add-b-in-loop-i
 overflow_add-b-in-loop-i c = let i = c.requires.0.lies.within in let n = c.name-b.ensures.1 in let t = c.loop-i-test.true in omega arith
+
+pub has_name-requires : goal.has_name-requires
+has_name-requires c = ((let i = c.requires.0.lies.within in let n = c.name-b.ensures.1 in let t = c.loop-i-test.true in omega arith), c.requires.1)
 
 pub overflow_mul-result : goal.overflow_mul-result
 overflow_mul-result c = let s = c.len-k.ensures.1 in let t = c.loop-r-test.true in omega arith

@@ -8,7 +8,7 @@ use borrow.Author.Rules.{rules}
 use Rattle.directory.proofs.look.part_end.Given as goal
 
 abbrev pub invariant-loop-q : goal.invariant-loop-q
-invariant-loop-q l = (Ending l.path l.q (defs.partEnd l.path l.p (length l.path - l.p))) × (l.p ≤ l.q)
+invariant-loop-q l = (Ending l.path l.q (defs.part_end l.path l.p (length l.path - l.p))) × (l.p ≤ l.q)
 
 abbrev pub decreases-loop-q : goal.decreases-loop-q
 decreases-loop-q l = l.n - l.q
