@@ -1,53 +1,59 @@
 use mathlib.Core.Path.{◌≡◌, sym, ◌∙◌}
 use mathlib.Core.Bool.{true}
-use mathlib.Core.Logic.{⊎_elim}
-use Prim.Native.Nat.{◌+◌, ◌-◌, ◌≤◌}
+use mathlib.Core.Logic.{◌≢◌}
+use Prim.Native.Nat.{ℕ, ◌+◌, ◌-◌, ◌≤◌}
 use native.Mathlib.Omega.{arith}
 use borrow.Author.Rules.{rules}
 use borrow.Author.Tests.{not-true, not-false}
 use Rattle.image.specs.Image.{view}
 use Rattle.volume.specs.Keys.{up}
+use Rattle.volume.specs.Closed.{stays, next_key}
 use Rattle.volume.specs.Files.{spot, present}
 use Rattle.inspect.proofs.Laws.{opened_least, opened_read, read_few, read_holder}
 use Rattle.links.proofs.Laws.{len_few, first_is, next_is, key_high, key_few}
 use Rattle.links.proofs.Walk.{tails_none, tails_are, Held, held_on, read_on, Linking, Turn, link_starts, link_tail, link_end, link_fails, link_next, next_there, next_more}
 use Rattle.links.proofs.linked_on.Goals as goal
-
--- the first key is no data block's
+use Rattle.links.proofs.linked_on.Goals.{Joined-k-lt-HOME, After-pair-x, then-k-lt-HOME+else-not-tail_good, else-k-lt-HOME, then-stays, else-stays}
 
 -- the turn, where the next key is known: the ways by which the tail is good have met
-
-turn : (c : goal.After-next_key-j) → (let a = c.args in let w = c.loop-k in Turn a.p a.img.now a.f w.k w.before w.b w.own_val c.next_key-j.result)
-turn c =
+turn : (c : Joined-k-lt-HOME) (j : ℕ) → j ≡ next_key c.args.n c.loop-k.k → (let a = c.args in let w = c.loop-k in Turn a.p a.img.now a.f w.k w.before w.b w.own j)
+turn c j h =
     let pre = c.requires in
     let g = c.loop-k.invariant.0 in
     record {
       at = g;
-      tailed = ⊎_elim (λ w. tails_are _ _ _ c.loop-k.k (omega (arith, w.0.taken)) pre.1 g.here w.1.ensures ∙ not-false _ w.2.left) (λ w. tails_none _ _ _ c.loop-k.k (omega (arith, w.left))) c.if-k-lt-HOME.branch;
-      next = next_is pre.0 pre.1 _ g.there c.next_key-j.ensures;
+      tailed = elim c.if-k-lt-HOME.branch [
+        | then-k-lt-HOME+else-not-tail_good w ↦ tails_are _ _ _ c.loop-k.k (omega (arith, w.if-k-lt-HOME.true)) pre.1 g.here w.tail_good.ensures ∙ not-false _ w.if-not-tail_good.false-raw
+        | else-k-lt-HOME w ↦ tails_none _ _ _ c.loop-k.k (omega (arith, w.if-k-lt-HOME.false))
+      ];
+      next = next_is pre.0 pre.1 _ g.there h;
     }
 
 -- the next key is present
-
-there : (c : goal.After-stays) → (let a = c.args in present a.p (view a.img.now) a.f c.next_key-j.result ≡ true)
-there c = next_there c.requires.0 (turn c.before.before) c.if-j-eq0.false
+there : (c : Joined-k-lt-HOME) (j : ℕ) → j ≡ next_key c.args.n c.loop-k.k → j ≢ 0 → (let a = c.args in present a.p (view a.img.now) a.f j ≡ true)
+there c j h n = next_there c.requires.0 (turn c j h) n
 
 -- the block that names it, where that stays
+kept : (c : Joined-k-lt-HOME) (j : ℕ) → j ≡ next_key c.args.n c.loop-k.k → stays j ≡ true → (let a = c.args in c.loop-k.q ≡ spot a.p (view a.img.now) a.f (up j))
+kept c j h s = held_on _ _ _ c.args.n _ c.loop-k.invariant.1 h s
 
-kept : (c : goal.After-stays) → c.stays.result ≡ true → (let a = c.args in c.loop-k.q ≡ spot a.p (view a.img.now) a.f (up c.next_key-j.result))
-kept c s = held_on _ _ _ c.args.n _ c.loop-k.invariant.1 c.next_key-j.ensures (sym c.stays.ensures ∙ s)
+-- both ways have met: the next key's block, and the one that names it; the next key is present, and where it stays its holder does
+fetched : (c : After-pair-x) → (let a = c.args in let j = c.next_key-j.result in
+    present a.p (view a.img.now) a.f j ≡ true → (stays j ≡ true → c.loop-k.q ≡ spot a.p (view a.img.now) a.f (up j))
+    → (c.if-stays.c ≡ spot a.p (view a.img.now) a.f j) × (c.if-stays.c ≤ a.p.e))
+fetched c t k =
+    elim c.if-stays.branch [
+      | then-stays w ↦ read_on c.requires.0 _ t (sym c.stays.ensures ∙ w.if-stays.true) (k (sym c.stays.ensures ∙ w.if-stays.true)) (w.c-is ∙ w.read-c.ensures)
+      | else-stays w ↦ (w.c-is ∙ w.spot-c.ensures.0, rw w.c-is w.spot-c.ensures.1)
+    ]
 
--- both ways have met: the next key's block, and the one that names it
-
-fetched : (c : goal.Joined-stays) → (let a = c.args in (c.if-stays.c ≡ spot a.p (view a.img.now) a.f c.next_key-j.result) × (c.if-stays.c ≤ a.p.e))
-fetched c =
-    ⊎_elim
-    (λ w. read_on c.requires.0 _ (there c.before) (sym c.stays.ensures ∙ w.0.taken) (kept c.before w.0.taken) (w.3 ∙ w.1.ensures))
-    (λ w. (w.4 ∙ w.2.ensures.0, rw w.4 w.2.ensures.1))
-    c.if-stays.branch
-
-held : (c : goal.Joined-stays) → (let a = c.args in c.if-stays.q ≡ spot a.p (view a.img.now) a.f (up c.next_key-j.result))
-held c = ⊎_elim (λ w. w.2 ∙ kept c.before w.0.taken) (λ w. w.3 ∙ w.1.ensures.0) c.if-stays.branch
+held : (c : After-pair-x) → (let a = c.args in let j = c.next_key-j.result in
+    (stays j ≡ true → c.loop-k.q ≡ spot a.p (view a.img.now) a.f (up j)) → c.if-stays.q ≡ spot a.p (view a.img.now) a.f (up j))
+held c k =
+    elim c.if-stays.branch [
+      | then-stays w ↦ w.q-is ∙ k (sym c.stays.ensures ∙ w.if-stays.true)
+      | else-stays w ↦ w.q-is ∙ w.holder_of-q.ensures.0
+    ]
 
 pub low-k-requires : goal.low-k-requires
 low-k-requires c = let pre = c.requires in len_few pre.0 pre.1
@@ -76,38 +82,38 @@ pub next_key-j-requires : goal.next_key-j-requires
 next_key-j-requires c = let pre = c.requires in (len_few pre.0 pre.1, key_few pre.0 _ c.loop-k.invariant.0.there)
 
 pub returns-then-j-eq0 : goal.returns-then-j-eq0
-returns-then-j-eq0 c = link_end c.requires.0 (turn c.before.before) c.if-j-eq0.true c.link_good.ensures
+returns-then-j-eq0 c = link_end c.requires.0 (turn (goal.at.returns-then-j-eq0 c).Joined-k-lt-HOME c.next_key-j.result c.next_key-j.ensures) c.if-j-eq0.true c.link_good.ensures
 
 pub read-c-requires : goal.read-c-requires
 read-c-requires c =
     let o = opened_read c.requires.0 in
-    let z = rw (← kept c.before c.if-stays.true) at (read_holder o _ (there c.before)) in
-    (omega (arith, o.lies.within, z), omega (arith, (read_few o _ (there c.before)).1))
+    let z = rw (← kept (goal.at.read-c-requires c).Joined-k-lt-HOME c.next_key-j.result c.next_key-j.ensures (sym c.stays.ensures ∙ c.if-stays.true)) at (read_holder o _ (there (goal.at.read-c-requires c).Joined-k-lt-HOME c.next_key-j.result c.next_key-j.ensures c.if-j-eq0.false)) in
+    (omega (arith, o.lies.within, z), omega (arith, (read_few o _ (there (goal.at.read-c-requires c).Joined-k-lt-HOME c.next_key-j.result c.next_key-j.ensures c.if-j-eq0.false)).1))
 
 pub holder_of-q-requires : goal.holder_of-q-requires
-holder_of-q-requires c = (opened_read c.requires.0, there c.before)
+holder_of-q-requires c = (opened_read c.requires.0, there (goal.at.holder_of-q-requires c).Joined-k-lt-HOME c.next_key-j.result c.next_key-j.ensures c.if-j-eq0.false)
 
 pub spot-c-requires : goal.spot-c-requires
-spot-c-requires c = (c.requires.0, there c.before.before)
+spot-c-requires c = (c.requires.0, there (goal.at.spot-c-requires c).Joined-k-lt-HOME c.next_key-j.result c.next_key-j.ensures c.if-j-eq0.false)
 
 pub leads-requires : goal.leads-requires
 leads-requires c =
     let o = c.requires.0 in
-    (omega (arith, c.loop-k.invariant.0.within, o.lies.within), c.pair-x.ensures.0, c.pair-x.ensures.1, omega (arith, (fetched c.before).1, o.lies.few))
+    (omega (arith, c.loop-k.invariant.0.within, o.lies.within), c.pair-x.ensures.0, c.pair-x.ensures.1, omega (arith, (fetched (goal.at.leads-requires c).After-pair-x (there (goal.at.leads-requires c).Joined-k-lt-HOME c.next_key-j.result c.next_key-j.ensures c.if-j-eq0.false) (kept (goal.at.leads-requires c).Joined-k-lt-HOME c.next_key-j.result c.next_key-j.ensures)).1, o.lies.few))
 
 pub returns-then-not-leads : goal.returns-then-not-leads
 returns-then-not-leads c =
     let o = c.requires.0 in
-    link_fails o (turn c.before.before.before.before.before.before) c.if-j-eq0.false (fetched c.before.before.before) c.leads.ensures (not-true _ c.if-not-leads.true-raw)
+    link_fails o (turn (goal.at.returns-then-not-leads c).Joined-k-lt-HOME c.next_key-j.result c.next_key-j.ensures) c.if-j-eq0.false (fetched (goal.at.returns-then-not-leads c).After-pair-x (there (goal.at.returns-then-not-leads c).Joined-k-lt-HOME c.next_key-j.result c.next_key-j.ensures c.if-j-eq0.false) (kept (goal.at.returns-then-not-leads c).Joined-k-lt-HOME c.next_key-j.result c.next_key-j.ensures)) c.leads.ensures (not-true _ c.if-not-leads.true-raw)
 
 pub loop-k-smaller : goal.loop-k-smaller
 loop-k-smaller c =
     let pre = c.requires in
-    let g = turn c.before.before.before.before.before.before in
+    let g = turn (goal.at.loop-k-smaller c).Joined-k-lt-HOME c.next_key-j.result c.next_key-j.ensures in
     let n = c.if-j-eq0.false in
     omega (arith, next_more pre.0 g n, pre.1, key_high pre.0 _ (next_there pre.0 g n))
 
 pub loop-k-preserved : goal.loop-k-preserved
 loop-k-preserved c =
     let o = c.requires.0 in
-    (link_next o (turn c.before.before.before.before.before.before) c.if-j-eq0.false (fetched c.before.before.before) c.leads.ensures (not-false _ c.if-not-leads.false-raw) c.pair-x.ensures.0, λ l. held c.before.before.before)
+    (link_next o (turn (goal.at.loop-k-preserved c).Joined-k-lt-HOME c.next_key-j.result c.next_key-j.ensures) c.if-j-eq0.false (fetched (goal.at.loop-k-preserved c).After-pair-x (there (goal.at.loop-k-preserved c).Joined-k-lt-HOME c.next_key-j.result c.next_key-j.ensures c.if-j-eq0.false) (kept (goal.at.loop-k-preserved c).Joined-k-lt-HOME c.next_key-j.result c.next_key-j.ensures)) c.leads.ensures (not-false _ c.if-not-leads.false-raw) c.pair-x.ensures.0, λ l. held (goal.at.loop-k-preserved c).After-pair-x (kept (goal.at.loop-k-preserved c).Joined-k-lt-HOME c.next_key-j.result c.next_key-j.ensures))
