@@ -96,21 +96,21 @@ fn unread(why: Finding) -> Judged {
     }
 }
 
-// Reads a file into img, as much of it as there is room for, and answers how many bytes that are. A path that is not UTF-8 names none.
-fn read(rt: &impl Files, path: &[u8], img: &mut [u8]) -> io::Result<u64> {
+// Reads a file into img, as much of it as there is room for, and answers how many bytes that are. A path that is not UTF-8 names no file.
+fn read(rt: &impl Files, path: &[u8], img: &mut [u8]) -> io::Result<usize> {
     let path = str::from_utf8(path).map_err(|_| io::ErrorKind::InvalidFilename)?;
     let room = img.len() as u64;
     let file = fs::open(rt, path)?;
-    io::copy(&mut file.take(room), &mut Cursor::new(img))
+    let n = io::copy(&mut file.take(room), &mut Cursor::new(img))?;
+    Ok(n as usize)
 }
 
-// What is found of a file. One that is longer than this program takes fills all the room.
+// What is found of a file. One that is longer than the longest image fills all the room.
 pub fn file(rt: &impl Files, path: &[u8], drive: usize) -> Judged {
     let mut img = [0u8; ROOM];
     let Ok(n) = read(rt, path, &mut img) else {
         return unread(Finding::Unread);
     };
-    let n = n as usize;
     if LONGEST < n {
         return unread(Finding::Long);
     }

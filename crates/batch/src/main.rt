@@ -41,10 +41,10 @@ fn counted(c: Counts, f: Finding) -> Counts {
 // A number that no drive has.
 const NO_DRIVE: usize = 4;
 
-// The bytes of the longest name that is taken; no path is longer.
+// The bytes of the longest name that is taken. No path is longer.
 const NAME: usize = 4096;
 
-// How many words the command line has, the program's own name among them.
+// How many words the command line has, the program's own name among them. A word that does not fit is one too.
 fn words(rt: &impl Env) -> usize {
     for i in 0..usize::MAX {
         if let Err(FillError::NotPresent) = rt.arg(i, &mut []) {
@@ -69,8 +69,9 @@ fn drive(rt: &impl Env, i: usize) -> usize {
     }
 }
 
-// Judges the image that word i names, on the drive of the word behind it, and writes its line.
-fn image<R: Env + Files + Print>(rt: &R, i: usize) -> io::Result<Finding>
+// Judges the image that word i names, on the drive of the word behind it, and writes its line. A word that does not fit is taken as an
+// empty name, which is no file's.
+fn image(rt: &(impl Env + Files + Print), i: usize) -> io::Result<Finding>
     requires { i < 18446744073709551615 }
 {
     let mut name = [0u8; NAME];
@@ -81,7 +82,7 @@ fn image<R: Env + Files + Print>(rt: &R, i: usize) -> io::Result<Finding>
 }
 
 // Goes over all images, and answers the counts.
-fn images<R: Env + Files + Print>(rt: &R) -> io::Result<Counts> {
+fn images(rt: &(impl Env + Files + Print)) -> io::Result<Counts> {
     let mut counts = Counts {
         sound: 0,
         repaired: 0,
