@@ -8,7 +8,7 @@ pub trimmed-requires : goal.trimmed-requires
 trimmed-requires c = (c.requires.1, c.if-k-lt-HOME.true)
 
 pub returns-then-k-lt-HOME : goal.returns-then-k-lt-HOME
-returns-then-k-lt-HOME c = c.trimmed.ensures ∙ ap (trimmed _ _) c.before.before.«record».ensures ∙ shaped_pointer _ _ _ c.if-k-lt-HOME.true
+returns-then-k-lt-HOME c = c.trimmed.ensures ∙ ap (trimmed _ _) c.record-x.ensures ∙ shaped_pointer _ _ _ c.if-k-lt-HOME.true
 
 pub returns : goal.returns
-returns c = c.before.«record».ensures ∙ shaped_other _ _ _ c.if-k-lt-HOME.false
+returns c = c.record-x.ensures ∙ shaped_other _ _ _ c.if-k-lt-HOME.false
