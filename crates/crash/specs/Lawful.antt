@@ -13,7 +13,7 @@ use Rattle.drive.specs.Fits.{pda_small, lda_small}
 use Rattle.drive.specs.Names.{address_small}
 use Rattle.volume.specs.Words.{number_free_at}
 use Rattle.frame.specs.Fitting.{put_fits, put2_fits}
-use Rattle.volume.specs.Reads.{inside_of}
+use Rattle.volume.proofs.Readings.{inside_of}
 
 -- a partition in its place on a drive, in a view of records
 pub record Placed (π : Partition) (v : View) : Type 0 where

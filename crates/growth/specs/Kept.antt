@@ -9,7 +9,7 @@ use Rattle.image.specs.View.{View, pair}
 use Rattle.volume.specs.Keys.{home, up, slot, first}
 use Rattle.volume.specs.Files.{len, spot, present, entry}
 use Rattle.volume.specs.declared.Partition.{Partition}
-use Rattle.volume.specs.Index.{wf_of}
+use Rattle.volume.proofs.Index.{wf_of}
 use Rattle.volume.specs.Writes.{is_new, fresh, present', spot'}
 use Rattle.growth.specs.Ready.{Tails, Ready}
 use Rattle.growth.specs.Path.{placed, new_beyond}
