@@ -23,7 +23,7 @@ use Rattle.volume.proofs.Frame.{Clean}
 use Rattle.volume.specs.Plans.{st, stores, destroy_plan, destroyed, gone, top_gone, fib_gone, top_gone_stores, last_gone_stores, pib_more, free_tail}
 use Rattle.frame.specs.Soft.{headed, headed_is, headed_zero, soft_links, cand_in}
 use Rattle.frame.specs.Reading.{two, put2_off, put2_here}
-use Rattle.drive.specs.Names.{address_names}
+use Rattle.drive.proofs.Names.{address_names}
 use Rattle.frame.proofs.Turn.{Each, each_append, each_pick, after_each, after_append, after_miss, Calm, calm_soft, calm_free, calm_pib, Turn, turn_free, turn_decided, turn_keeps}
 use Rattle.frame.proofs.Decides.{Decides, Good}
 use Rattle.frame.specs.Sound.{tail_free, sound_clean, sound_once, sound_within, sound_head, sound_number, free_in, free_not, sound_some, some_free}

@@ -19,7 +19,7 @@ use Rattle.volume.proofs.Index.{spot_home, present_home, here_of, of_wf}
 use Rattle.volume.proofs.Order.{next_one, prev_one, above_next, below_prev}
 use Rattle.volume.specs.Plans.{fresh_fib}
 use Rattle.frame.specs.Reading.{word}
-use Rattle.drive.specs.Names.{lda_self}
+use Rattle.drive.proofs.Names.{lda_self}
 use Rattle.frame.proofs.FreeChain.{Links}
 
 -- nothing stands in its links, its description and its index

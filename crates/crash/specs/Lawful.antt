@@ -10,7 +10,7 @@ use Rattle.volume.specs.declared.Partition.{Partition}
 use Rattle.volume.specs.Plans.{new_first, pib_less, as_filler}
 use Rattle.frame.specs.Reading.{put2_off}
 use Rattle.drive.specs.Fits.{pda_small, lda_small}
-use Rattle.drive.specs.Names.{address_small}
+use Rattle.drive.proofs.Names.{address_small}
 use Rattle.volume.specs.Words.{number_free_at}
 use Rattle.frame.specs.Fitting.{put_fits, put2_fits}
 use Rattle.volume.proofs.Readings.{inside_of}

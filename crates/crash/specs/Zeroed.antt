@@ -11,7 +11,7 @@ use Rattle.base.specs.Laws.{every_at, both_left, both_right, both_of}
 use Rattle.base.specs.declared.Refusal.TheVariants.{Unsound, NothingFree}
 use Rattle.drive.specs.Address.{lda, address}
 use Rattle.drive.specs.Laws.{pda_pos}
-use Rattle.drive.specs.Names.{nil_new}
+use Rattle.drive.proofs.Names.{nil_new}
 use Rattle.image.specs.View.{View, Rec, after, pair, put, put2, blank}
 use Rattle.image.specs.Image.{view}
 use Rattle.volume.specs.Words.{serial_at, relative_at, filler_at, next_at, previous_at, free_head_at, free_tail_at, number_free_at, partition_start_at, partition_end_at}

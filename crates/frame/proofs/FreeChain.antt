@@ -21,7 +21,7 @@ use Rattle.volume.specs.declared.Partition.{Partition}
 use Rattle.volume.proofs.Index.{span_at, span_of, unless_at, unless_of, or_at, or_of, present_low, present_high, member_owned, file_back}
 use Rattle.volume.proofs.Frame.{Clean, Shape, kept_len, kept_present, kept_spot, kept_next, kept_prev}
 use Rattle.frame.specs.Reading.{two}
-use Rattle.drive.specs.Names.{lda_block_is}
+use Rattle.drive.proofs.Names.{lda_block_is}
 use Rattle.frame.specs.Chain.{chain_end, chain_on}
 use Rattle.volume.proofs.Readings.{inside_of, or_pda, of_inside}
 use Rattle.frame.proofs.Turn.{Turn}

@@ -11,7 +11,7 @@ use Rattle.base.specs.Tests.{pick, both, every, all, head_of, last_of, occ}
 use Rattle.base.specs.Tests as tests
 use Rattle.base.specs.Laws.{cons_same, all_of, both_of}
 use Rattle.drive.specs.Address.{lda_block, or_nil, is_lda}
-use Rattle.drive.specs.Names.{lda_block_is, address_names}
+use Rattle.drive.proofs.Names.{lda_block_is, address_names}
 use Rattle.image.specs.View.{View, Rec, Store, after, pair, put, put2}
 use Rattle.volume.specs.Words.{next_at, previous_at}
 use Rattle.volume.specs.Keys.{home, child, first}

@@ -8,7 +8,7 @@ use Prim.Native.Nat.{ℕ, zero, suc, ◌+◌, ◌-◌, ◌*◌, ◌/◌, ◌%◌
 use Rattle.std.proofs.lemmas.Bool.{eqb-false}
 use Rattle.base.specs.Tests.{pick, tab_from, head_of, last_of}
 use Rattle.drive.specs.Address.{address}
-use Rattle.drive.specs.Names.{address_twice}
+use Rattle.drive.proofs.Names.{address_twice}
 use Rattle.image.specs.View.{View, Rec, Store, after, upd, pair, put, put2}
 use Rattle.base.specs.Laws.{pick_same}
 use Rattle.volume.specs.Words.{next_at, previous_at, free_head_at, free_tail_at}

@@ -16,7 +16,7 @@ use Rattle.volume.specs.Words.{free_head_at, free_tail_at, next_at, number_free_
 use Rattle.volume.specs.Files.{inside, within, candidate, well_formed, owned, unowned, linked, file_test, free, free_head, chain, chained, sound, free_sound}
 use Rattle.volume.specs.declared.Partition.{Partition}
 use Rattle.volume.proofs.Frame.{Clean}
-use Rattle.drive.specs.Names.{lda_block_is}
+use Rattle.drive.proofs.Names.{lda_block_is}
 use Rattle.frame.specs.Chain.{occ_in}
 use Rattle.frame.specs.Soft.{cand_in}
 use Rattle.volume.proofs.Readings.{inside_of, all_inside}

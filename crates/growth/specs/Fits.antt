@@ -10,7 +10,7 @@ use Rattle.base.specs.Laws.{both_left}
 use Rattle.base.specs.Sums.{count_both}
 use Rattle.drive.specs.Address.{pda, lda}
 use Rattle.drive.specs.Fits.{pda_small, lda_small}
-use Rattle.drive.specs.Names.{address_small}
+use Rattle.drive.proofs.Names.{address_small}
 use Rattle.image.specs.View.{View, Rec}
 use Rattle.image.specs.Saves.{with_data}
 use Rattle.image.specs.Stores.{Fits}

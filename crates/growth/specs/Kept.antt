@@ -4,7 +4,7 @@ use Rattle.std.specs.Prelude.{◌≡◌, ◌⊎◌, ◌≢◌, Bool, true, false
 use Rattle.std.proofs.Common.{sym, ap, ap₂, ◌∙◌, subst, inl, inr, arith}
 use Rattle.base.specs.Tests.{pick}
 use Rattle.drive.specs.Address.{lda, address}
-use Rattle.drive.specs.Names.{address_kept, nil_new}
+use Rattle.drive.proofs.Names.{address_kept, nil_new}
 use Rattle.image.specs.View.{View, pair}
 use Rattle.volume.specs.Keys.{home, up, slot, first}
 use Rattle.volume.specs.Files.{len, spot, present, entry}

@@ -17,7 +17,7 @@ use Rattle.volume.proofs.Index.{Here, here_of, of_here, spot_home, present_home,
 use Rattle.volume.proofs.Frame.{SameHead, same_serial}
 use Rattle.volume.specs.Plans.{free_at}
 use Rattle.volume.specs.Writes.{over, is_new, fresh, present', spot', above', below', least', size', last_address, low_address}
-use Rattle.drive.specs.Names.{lda_self, address_names}
+use Rattle.drive.proofs.Names.{lda_self, address_names}
 use Rattle.growth.specs.Ready.{Tails, Ready}
 use Rattle.growth.specs.Path.{over_zero, new_at, fresh_at, needs_some, new_first_at, new_up, home_old}
 use Rattle.growth.specs.Room.{fresh_in}

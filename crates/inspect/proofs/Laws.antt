@@ -10,7 +10,7 @@ use lib.ListN.{length}
 use borrow.Author.Tests.{ltb-true, ltb-false, eqb-true, eqb-false}
 use Rattle.base.specs.Tests.{every}
 use Rattle.drive.specs.Address.{pda, lda_block, is_lda}
-use Rattle.drive.specs.Names.{lda_bits}
+use Rattle.drive.proofs.Names.{lda_bits}
 use Rattle.image.specs.View.{View, pair}
 use Rattle.image.specs.Image.{view}
 use Rattle.volume.specs.Words.{data_offset, relative_at, slot_at, direct_at}

@@ -9,7 +9,7 @@ use borrow.Author.Tests.{ltb-true, ltb-false, eqb-true, le-ltb, eq-eqb, le-leb, 
 use Rattle.base.specs.Tests.{both, every, all}
 use Rattle.base.specs.Laws.{all_at, all_of, both_left, both_right, both_of, every_at, iff_eq}
 use Rattle.drive.specs.Address.{lda_block, is_lda}
-use Rattle.drive.specs.Names.{lda_some}
+use Rattle.drive.proofs.Names.{lda_some}
 use Rattle.image.specs.View.{View, pair}
 use Rattle.volume.specs.Words.{relative_at, direct_at, indirect_at, double_at, in_use_at, last_address_at, low_number_at, low_address_at}
 use Rattle.volume.specs.Keys.{home, reach, number, up, slot, first, low}
