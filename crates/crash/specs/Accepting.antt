@@ -12,13 +12,13 @@ use Rattle.image.specs.Saves.{words}
 use Rattle.image.specs.Image.{view, Bytes}
 use Rattle.volume.specs.Files.{partition_of, unowned, free_head, sound}
 use Rattle.volume.specs.declared.Partition.{Partition}
-use Rattle.volume.specs.Frame.{Clean, of_clean}
+use Rattle.volume.proofs.Frame.{Clean, of_clean}
 use Rattle.volume.specs.Plans.{repair_plan}
 use Rattle.frame.specs.Sound.{sound_clean}
 use Rattle.base.specs.declared.Refusal.TheVariants.{BadBuffer, Unsound, NothingFree, BadName}
 use Rattle.volume.specs.Answers.{partition, lowest_malformed, checked, check_in, check_clean, tallied, in_partition}
 use Rattle.volume.specs.Calls.{Call, create, write, describe, destroy, repair, Planned, refuse, finish, planned, lending, lent_block, lent_text, through, unmarred, repair_in, create_in, write_in, describe_in, destroy_in}
-use Rattle.volume.specs.Reads.{fine_block, fine_text}
+use Rattle.volume.proofs.Readings.{fine_block, fine_text}
 use Rattle.volume.specs.declared.Lent.{Lent}
 use Rattle.volume.specs.declared.Lent.TheVariants.{Fine, WrongLength, WrongName}
 use Rattle.volume.specs.declared.Found.{Found}

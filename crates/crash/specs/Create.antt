@@ -11,19 +11,19 @@ use Rattle.image.specs.View.{upd_same, upd_other, View, Rec, after, upd}
 use Rattle.volume.specs.Keys.{home}
 use Rattle.volume.specs.Files.{inside, candidate, spot, well_formed, file_of, owned, free, free_head, sound}
 use Rattle.volume.specs.declared.Partition.{Partition}
-use Rattle.volume.specs.Index.{spot_home, present_home, own, file_candidate, member_owned, pib_not}
-use Rattle.volume.specs.Frame.{Clean}
+use Rattle.volume.proofs.Index.{spot_home, present_home, own, file_candidate, member_owned, pib_not}
+use Rattle.volume.proofs.Frame.{Clean}
 use Rattle.volume.specs.Plans.{st, as_filler, stores, free_at, fresh_fib, new_first, taken_stores, create_plan}
 use Rattle.frame.specs.Reading.{put_off, put2_off}
-use Rattle.frame.specs.Turn.{Each, after_miss, calm_soft, calm_pib, Turn, turn_free, turn_decided, turn_keeps}
-use Rattle.frame.specs.Decides.{Decides, Good}
+use Rattle.frame.proofs.Turn.{Each, after_miss, calm_soft, calm_pib, Turn, turn_free, turn_decided, turn_keeps}
+use Rattle.frame.proofs.Decides.{Decides, Good}
 use Rattle.frame.specs.Sound.{sound_clean, some_free}
-use Rattle.frame.specs.FreeChain.{Links, links_others}
+use Rattle.frame.proofs.FreeChain.{Links, links_others}
 use Rattle.frame.specs.Taking.{taken, differ}
-use Rattle.frame.specs.Drawn.{Taken, Drawn, left, drawn_free}
+use Rattle.frame.proofs.Drawn.{Taken, Drawn, left, drawn_free}
 use Rattle.crash.specs.Whole.{W_owned, keeps_sound}
 use Rattle.crash.specs.Fresh.{fresh_cand, fresh_only, fresh_wf, fresh_links}
-use Rattle.volume.specs.Reads.{off_pib}
+use Rattle.volume.proofs.Readings.{off_pib}
 use Rattle.frame.specs.Soft.{soft_links}
 use Rattle.crash.specs.Lawful.{Placed, Lawful, pda_fits, lda_fits, le_end, inner, first_lawful, less_lawful}
 use Rattle.frame.specs.Fitting.{put_fits, put2_fits, blank_fits}

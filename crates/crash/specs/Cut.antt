@@ -9,13 +9,13 @@ use Rattle.std.proofs.Math.ListN.{length}
 use Rattle.image.specs.View.{View, Store, after, upd}
 use Rattle.volume.specs.Files.{unowned, sound}
 use Rattle.volume.specs.declared.Partition.{Partition}
-use Rattle.volume.specs.Frame.{Clean, Agree, formed, agree_clean, agree_unowned}
+use Rattle.volume.proofs.Frame.{Clean, Agree, formed, agree_clean, agree_unowned}
 use Rattle.volume.specs.Plans.{repair_stores}
-use Rattle.frame.specs.Repair.{mid_agree}
-use Rattle.frame.specs.Restart.{Part, start, again, finish}
-use Rattle.frame.specs.Mended.{sound_is, mended_agree}
-use Rattle.frame.specs.Turn.{each_take, after_append, cut_early, cut_late, Calm, calm_agree, turn_clean}
-use Rattle.frame.specs.Decides.{Decides}
+use Rattle.frame.proofs.Repair.{mid_agree}
+use Rattle.frame.proofs.Restart.{Part, start, again, finish}
+use Rattle.frame.proofs.Mended.{sound_is, mended_agree}
+use Rattle.frame.proofs.Turn.{each_take, after_append, cut_early, cut_late, Calm, calm_agree, turn_clean}
+use Rattle.frame.proofs.Decides.{Decides}
 use Rattle.crash.specs.SameFile.{SameFile, SameFiles, file_trans, file_sym, agree_same, turn_same}
 
 -- ---- repair, cut and begun again any number of times, then finished

@@ -17,31 +17,31 @@ use Rattle.volume.specs.Words.{next_at, previous_at, number_free_at}
 use Rattle.volume.specs.Keys.{home, span, low}
 use Rattle.volume.specs.Files.{inside, candidate, len, end, spot, present, least, size, well_formed, file_of, owned, free, free_head, sound}
 use Rattle.volume.specs.declared.Partition.{Partition}
-use Rattle.volume.specs.Index.{spot_home, present_home, wf_of, own, file_candidate, file_back, pib_not}
-use Rattle.volume.specs.Order.{least_present, least_most}
-use Rattle.volume.specs.Frame.{Clean}
+use Rattle.volume.proofs.Index.{spot_home, present_home, wf_of, own, file_candidate, file_back, pib_not}
+use Rattle.volume.proofs.Order.{least_present, least_most}
+use Rattle.volume.proofs.Frame.{Clean}
 use Rattle.volume.specs.Plans.{st, stores, destroy_plan, destroyed, gone, top_gone, fib_gone, top_gone_stores, last_gone_stores, pib_more, free_tail}
 use Rattle.frame.specs.Soft.{headed, headed_is, headed_zero, soft_links, cand_in}
 use Rattle.frame.specs.Reading.{two, put2_off, put2_here}
-use Rattle.drive.specs.Names.{address_names}
-use Rattle.frame.specs.Turn.{Each, each_append, each_pick, after_each, after_append, after_miss, Calm, calm_soft, calm_free, calm_pib, Turn, turn_free, turn_decided, turn_keeps}
-use Rattle.frame.specs.Decides.{Decides, Good}
+use Rattle.drive.proofs.Names.{address_names}
+use Rattle.frame.proofs.Turn.{Each, each_append, each_pick, after_each, after_append, after_miss, Calm, calm_soft, calm_free, calm_pib, Turn, turn_free, turn_decided, turn_keeps}
+use Rattle.frame.proofs.Decides.{Decides, Good}
 use Rattle.frame.specs.Sound.{tail_free, sound_clean, sound_once, sound_within, sound_head, sound_number, free_in, free_not, sound_some, some_free}
-use Rattle.frame.specs.FreeChain.{IsFree, links_others}
+use Rattle.frame.proofs.FreeChain.{IsFree, links_others}
 use Rattle.frame.specs.Taking.{occ_append}
-use Rattle.frame.specs.Listed.{blocks, blocks_length, within_blocks, last_blocks}
+use Rattle.frame.proofs.Listed.{blocks, blocks_length, within_blocks, last_blocks}
 use Rattle.crash.specs.Whole.{W_owned, keeps_sound}
 use Rattle.crash.specs.FreeBlocks.{first_free, first_in, own_file, free≢spot, free≢fib, spot_unique, spot_in_inside}
 use Rattle.crash.specs.Gone.{gone_zero, top_zero, fib_zero, gone_word, top_word, fib_word_is, top_prev, fib_prev, gone_fits, top_fits, fib_fits}
 use Rattle.frame.specs.Joined.{within_both, head_both, last_both}
 use Rattle.crash.specs.Returned.{Behind, occ_blocks, ways}
-use Rattle.volume.specs.Reads.{off_pib}
+use Rattle.volume.proofs.Readings.{off_pib}
 use Rattle.base.specs.Laws.{never}
 use Rattle.crash.specs.Lawful.{Placed, Lawful, pda_fits, address_fits, le_end, inner, at_pib}
 use Rattle.frame.specs.Fitting.{put2_fits}
 use Rattle.frame.specs.Chain.{chain_short}
 use Rattle.base.specs.Sums.{count_both}
-use Rattle.volume.specs.KeyLaws.{span_end}
+use Rattle.volume.proofs.KeyLaws.{span_end}
 
 module _ (π : Partition) (v : View) (ok : sound π v ≡ true) (f : ℕ) (cf : candidate π v f ≡ true) where
   abbrev alone : Bool

@@ -12,15 +12,15 @@ use Rattle.volume.specs.Words.{kind_at}
 use Rattle.volume.specs.Keys.{home}
 use Rattle.volume.specs.Files.{candidate, len, present, name, well_formed, is_file, free, free_head, sound}
 use Rattle.volume.specs.declared.Partition.{Partition}
-use Rattle.volume.specs.Index.{spot_home, present_home}
-use Rattle.volume.specs.Frame.{SameHead, Shape, Clean, kept_len, kept_spot, kept_well_formed}
+use Rattle.volume.proofs.Index.{spot_home, present_home}
+use Rattle.volume.proofs.Frame.{SameHead, Shape, Clean, kept_len, kept_spot, kept_well_formed}
 use Rattle.volume.specs.Plans.{Plan, stores, free_at, fresh_fib, create_plan, describe_plan, destroy_plan, destroyed, repair_plan}
 use Rattle.volume.specs.Writes.{over, replace_plan}
 use Rattle.volume.specs.Calls.{Call, create, write, describe, destroy, repair}
 use Rattle.frame.specs.Soft.{cand_same}
 use Rattle.frame.specs.Sound.{sound_clean, spare_block}
-use Rattle.frame.specs.Decides.{Good}
-use Rattle.frame.specs.Mended.{mended_agree}
+use Rattle.frame.proofs.Decides.{Good}
+use Rattle.frame.proofs.Mended.{mended_agree}
 use Rattle.crash.specs.SameFile.{SameFile, SameFiles, agree_same, data_here}
 use Rattle.crash.specs.Cut.{decided_same}
 use Rattle.crash.specs.FreeBlocks.{first_in, spot_unique, spot≢fib}

@@ -7,11 +7,12 @@ use Rattle.image.specs.View.{View, Rec, Store, after, pair}
 use Rattle.image.specs.Image.{view, Bytes}
 use Rattle.image.specs.Stores.{Fits, Whole, stored, over, bytes_from, bytes_of, view_stored, stored_length}
 use Rattle.volume.specs.declared.Partition.{Partition}
-use Rattle.frame.specs.Turn.{Each, each_map, after_each}
+use Rattle.frame.proofs.Turn.{Each, each_map, after_each}
 use Rattle.base.specs.declared.Refusal.TheVariants.{BadImage, BadPartition}
 use Rattle.volume.specs.Words.{partition_end_at, partition_start_at}
 use Rattle.volume.specs.Answers.{image_good, part_good, end_of, partition}
-use Rattle.volume.specs.Reads.{Lies, lies, good_part}
+use Rattle.volume.specs.Reads.{Lies}
+use Rattle.volume.proofs.Readings.{lies, good_part}
 use Rattle.volume.specs.declared.Part.{Part}
 use Rattle.volume.specs.declared.Part.TheVariants as part
 use Rattle.frame.specs.Fitting.{view_fits}

@@ -10,10 +10,10 @@ use Rattle.volume.specs.declared.Partition.{Partition}
 use Rattle.volume.specs.Plans.{new_first, pib_less, as_filler}
 use Rattle.frame.specs.Reading.{put2_off}
 use Rattle.drive.specs.Fits.{pda_small, lda_small}
-use Rattle.drive.specs.Names.{address_small}
+use Rattle.drive.proofs.Names.{address_small}
 use Rattle.volume.specs.Words.{number_free_at}
 use Rattle.frame.specs.Fitting.{put_fits, put2_fits}
-use Rattle.volume.specs.Reads.{inside_of}
+use Rattle.volume.proofs.Readings.{inside_of}
 
 -- a partition in its place on a drive, in a view of records
 pub record Placed (π : Partition) (v : View) : Type 0 where

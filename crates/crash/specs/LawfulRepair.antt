@@ -9,7 +9,7 @@ use Rattle.volume.specs.Files.{unowned, owned, within}
 use Rattle.volume.specs.declared.Partition.{Partition}
 use Rattle.volume.specs.Plans.{st, stores, repair_stores, repair_plan, repaired, repaired_pib}
 use Rattle.frame.specs.Reading.{put2_off}
-use Rattle.frame.specs.Turn.{Each, each_append}
+use Rattle.frame.proofs.Turn.{Each, each_append}
 use Rattle.frame.specs.Chain.{head_in, last_in, length_most}
 use Rattle.frame.specs.Fitting.{put2_fits}
 use Rattle.crash.specs.Lawful.{Placed, Lawful, address_fits, at_pib}

@@ -11,7 +11,7 @@ use Rattle.image.specs.Image.{view, view_settles}
 use Rattle.image.specs.Stores.{stored}
 use Rattle.volume.specs.Files.{partition_of, unowned, block_at, candidate, len, is_file, sound}
 use Rattle.volume.specs.declared.Partition.{Partition}
-use Rattle.volume.specs.Frame.{Clean, of_clean, clean_of}
+use Rattle.volume.proofs.Frame.{Clean, of_clean, clean_of}
 use Rattle.volume.specs.Plans.{Plan, repair_stores, repair_plan}
 use Rattle.volume.specs.Writes.{needs}
 use Rattle.frame.specs.Sound.{sound_clean, spare_block}
@@ -29,8 +29,8 @@ use Rattle.volume.specs.declared.Found.TheVariants.{At, Nothing}
 use Rattle.volume.specs.declared.Part.{Part}
 use Rattle.volume.specs.declared.Part.TheVariants as part
 use Rattle.volume.specs.declared.Outcome.TheVariants.{Done, Refused}
-use Rattle.frame.specs.Restart as restart
-use Rattle.frame.specs.Mended.{sound_is}
+use Rattle.frame.proofs.Restart as restart
+use Rattle.frame.proofs.Mended.{sound_is}
 use Rattle.crash.specs.Settled.{Settled, refused, done}
 use Rattle.crash.specs.Held.{Held, placed, end_is}
 use Rattle.crash.specs.Accepting.{Sound, sound_accepted, accepted_sound, settled, block}
@@ -40,7 +40,7 @@ use Rattle.crash.specs.Needed.{free_unowned}
 use Rattle.crash.specs.Needed as counts
 use Rattle.crash.specs.Statement.{Repairs, Image, Proper, is_done, Accepted, stopped, whole, here}
 use Rattle.crash.specs.Theorem.{whole_kept, survivor_held, whole_view, stopped_held, cut_clean, mended_held, mended_view, mended_length}
-use Rattle.volume.specs.Reads.{whole_records}
+use Rattle.volume.proofs.Readings.{whole_records}
 
 -- ---- a whole changing call, done or refused, keeps a partition sound
 

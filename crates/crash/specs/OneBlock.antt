@@ -12,22 +12,22 @@ use Rattle.drive.specs.Address.{is_lda}
 use Rattle.image.specs.View.{upd_same, upd_other, View, Rec, after, upd, pair}
 use Rattle.image.specs.Saves.{with_data, with_text}
 use Rattle.volume.specs.Keys.{home, up, slot}
-use Rattle.volume.specs.KeyLaws.{up_most, slot_fib, number_fib}
+use Rattle.volume.proofs.KeyLaws.{up_most, slot_fib, number_fib}
 use Rattle.volume.specs.Files.{inside, candidate, spot, present, well_formed, key, owned, free, free_head, sound}
 use Rattle.volume.specs.declared.Partition.{Partition}
-use Rattle.volume.specs.Index.{spot_home, present_home, member, member_owned, file_back, key_back, present_few}
-use Rattle.volume.specs.Frame.{SameHead, head_of_same, Shape, Clean, Formed, kept_present, kept_spot, kept_well_formed, agree_clean, agree_owned}
+use Rattle.volume.proofs.Index.{spot_home, present_home, member, member_owned, file_back, key_back, present_few}
+use Rattle.volume.proofs.Frame.{SameHead, head_of_same, Shape, Clean, Formed, kept_present, kept_spot, kept_well_formed, agree_clean, agree_owned}
 use Rattle.volume.specs.Plans.{st, stores, describe_plan}
 use Rattle.volume.specs.Writes.{over, replace_plan}
 use Rattle.frame.specs.Soft.{headed_rel, cand_in, cand_same}
-use Rattle.frame.specs.Turn.{Turn, Mine, turn_free, turn_decided, Each}
-use Rattle.frame.specs.Decides.{Good}
+use Rattle.frame.proofs.Turn.{Turn, Mine, turn_free, turn_decided, Each}
+use Rattle.frame.proofs.Decides.{Good}
 use Rattle.frame.specs.Sound.{sound_clean, sound_linked, sound_once, sound_within, sound_chained, sound_head, sound_tail, sound_number, sound_some, some_free}
-use Rattle.frame.specs.FreeChain.{links_of, sound_of, links_same}
+use Rattle.frame.proofs.FreeChain.{links_of, sound_of, links_same}
 use Rattle.frame.specs.Reading.{two}
 use Rattle.crash.specs.FreeBlocks.{first_free, first_in, own_file, spot≢fib, spot_in_inside}
 use Rattle.frame.specs.Joined.{chained_links}
-use Rattle.volume.specs.Reads.{off_pib}
+use Rattle.volume.proofs.Readings.{off_pib}
 use Rattle.volume.specs.Words.{next_at, previous_at}
 use Rattle.crash.specs.Lawful.{Placed, Lawful, inner}
 use Rattle.frame.specs.Fitting.{Words, text_fits, data_fits}

@@ -7,14 +7,14 @@ use Rattle.base.specs.Tests.{tab_from}
 use Rattle.image.specs.View.{View, Rec, Store, after, upd}
 use Rattle.volume.specs.Files.{unowned, candidate, len, present, free, free_head, sound, is_file}
 use Rattle.volume.specs.declared.Partition.{Partition}
-use Rattle.volume.specs.Frame.{Clean, Agree, formed, agree_unowned}
+use Rattle.volume.proofs.Frame.{Clean, Agree, formed, agree_unowned}
 use Rattle.volume.specs.Plans.{st, Plan, stores, create_plan, describe_plan, destroy_plan, repair_plan, repaired, repaired_pib}
 use Rattle.volume.specs.Writes.{replace_plan}
-use Rattle.frame.specs.Turn.{Each, each_append, after_append, Calm, calm_pib, calm_agree}
-use Rattle.frame.specs.Decides.{Good}
+use Rattle.frame.proofs.Turn.{Each, each_append, after_append, Calm, calm_pib, calm_agree}
+use Rattle.frame.proofs.Decides.{Good}
 use Rattle.frame.specs.Sound.{sound_clean, spare_block}
-use Rattle.frame.specs.Repair.{repaired_quiet}
-use Rattle.frame.specs.Mended.{sound_is}
+use Rattle.frame.proofs.Repair.{repaired_quiet}
+use Rattle.frame.proofs.Mended.{sound_is}
 use Rattle.frame.specs.Fitting.{Words}
 use Rattle.crash.specs.SameFile.{SameFiles}
 use Rattle.crash.specs.Lawful.{Placed, Lawful}
@@ -23,7 +23,7 @@ use Rattle.crash.specs.Create.{create_good, create_sound, create_lawful}
 use Rattle.crash.specs.OneBlock.{describe_good, describe_sound, replace_good, replace_sound, describe_lawful, replace_lawful}
 use Rattle.crash.specs.Destroy.{destroy_good, destroy_sound, destroy_lawful}
 use Rattle.crash.specs.Effect.{Created, Written, Described, here_data, created, described, replaced, removed, mended_same}
-use Rattle.volume.specs.Reads.{candidate_in}
+use Rattle.volume.proofs.Readings.{candidate_in}
 
 -- a plan changes file f alone, at its deciding store; whole, it leaves a sound partition, in which E holds; each of its stores is lawful
 pub record Owes (π : Partition) (v : View) (P : Plan) (f : ℕ) (E : View → Type 0) : Type 0 where

@@ -7,12 +7,12 @@ use Rattle.base.specs.Laws.{both_left, both_of, iff_eq}
 use Rattle.image.specs.View.{View}
 use Rattle.volume.specs.Words.{kind_at}
 use Rattle.volume.specs.Keys.{home}
-use Rattle.volume.specs.KeyLaws.{first_data}
+use Rattle.volume.proofs.KeyLaws.{first_data}
 use Rattle.volume.specs.Files.{len, name, present, spot, is_file}
 use Rattle.volume.specs.declared.Partition.{Partition}
-use Rattle.volume.specs.Index.{wf_of, file_formed}
-use Rattle.volume.specs.Frame.{Kept, kept_len, kept_present, kept_spot, Clean, Agree, formed, agree_file}
-use Rattle.frame.specs.Turn.{Turn}
+use Rattle.volume.proofs.Index.{wf_of, file_formed}
+use Rattle.volume.proofs.Frame.{Kept, kept_len, kept_present, kept_spot, Clean, Agree, formed, agree_file}
+use Rattle.frame.proofs.Turn.{Turn}
 
 -- f is a file in both views or in neither; as a file it has the same keys in the same blocks, and the same bytes, kind and description
 pub record SameFile (π : Partition) (v v' : View) (f : ℕ) : Type 0 where

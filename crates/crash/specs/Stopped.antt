@@ -8,7 +8,7 @@ use Rattle.base.specs.Tests.{pick}
 use Rattle.image.specs.View.{View, after}
 use Rattle.volume.specs.Files.{unowned, sound}
 use Rattle.volume.specs.declared.Partition.{Partition}
-use Rattle.volume.specs.Frame.{Clean}
+use Rattle.volume.proofs.Frame.{Clean}
 use Rattle.volume.specs.Plans.{stores}
 use Rattle.frame.specs.Sound.{sound_clean, spare_block}
 use Rattle.volume.specs.Calls.{Planned, decided}

@@ -8,9 +8,9 @@ use Rattle.image.specs.View.{View, Store, after}
 use Rattle.image.specs.Image.{view}
 use Rattle.volume.specs.Files.{partition_of, unowned, present, spot, name, is_file, sound}
 use Rattle.volume.specs.declared.Partition.{Partition}
-use Rattle.volume.specs.Frame.{Clean}
+use Rattle.volume.proofs.Frame.{Clean}
 use Rattle.volume.specs.Plans.{repair_stores}
-use Rattle.frame.specs.Turn.{Each, each_take}
+use Rattle.frame.proofs.Turn.{Each, each_take}
 use Rattle.volume.specs.Calls.{Call, create, write, describe, destroy, repair, Planned, planned, decided}
 use Rattle.volume.specs.declared.Found.TheVariants.{At}
 use Rattle.crash.specs.SameFile as views
@@ -25,8 +25,8 @@ use Rattle.crash.specs.Effect.{Effect}
 use Rattle.crash.specs.Held.{Held, placed, end_is, view_after, length_after, held_after}
 use Rattle.crash.specs.Accepting.{Sound, sound_accepted, accepted_sound, block, settled, repair_is}
 use Rattle.crash.specs.Statement.{Proper, AllProper, is_done, stopped, whole, runs, Repairs, none, again, here, SameContent, SameFile, named, Survives, Demand3}
-use Rattle.volume.specs.Reads.{candidate_in}
-use Rattle.volume.specs.Index.{file_candidate}
+use Rattle.volume.proofs.Readings.{candidate_in}
+use Rattle.volume.proofs.Index.{file_candidate}
 
 -- ---- a file that is the same in two views of one partition is the same in the images
 

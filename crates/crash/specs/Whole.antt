@@ -6,12 +6,12 @@ use Rattle.std.proofs.Math.Bool.{true, true≢false}
 use Rattle.image.specs.View.{View, Store, after, upd}
 use Rattle.volume.specs.Files.{candidate, owned, sound}
 use Rattle.volume.specs.declared.Partition.{Partition}
-use Rattle.volume.specs.Index.{member_owned}
-use Rattle.volume.specs.Frame.{Clean, Agree, formed, agree_clean, agree_owned}
-use Rattle.frame.specs.Turn.{Each, each_map, after_miss, after_append, turn_clean}
-use Rattle.frame.specs.Decides.{Decides}
+use Rattle.volume.proofs.Index.{member_owned}
+use Rattle.volume.proofs.Frame.{Clean, Agree, formed, agree_clean, agree_owned}
+use Rattle.frame.proofs.Turn.{Each, each_map, after_miss, after_append, turn_clean}
+use Rattle.frame.proofs.Decides.{Decides}
 use Rattle.frame.specs.Sound.{spare_block, sound_clean}
-use Rattle.frame.specs.FreeChain.{Links, links_kept, IsFree, sound_of}
+use Rattle.frame.proofs.FreeChain.{Links, links_kept, IsFree, sound_of}
 use Rattle.crash.specs.Cut.{whole_agrees}
 
 module _ (π : Partition) (g : π.s < π.e) (p : 0 < π.s) (v : View) (ok : sound π v ≡ true) (before : List Store) (x : Store) (rest : List Store) (f : ℕ) (y : Decides π v before x rest f) where

@@ -11,14 +11,14 @@ use Rattle.base.specs.Laws.{every_at, both_left, both_right, both_of}
 use Rattle.base.specs.declared.Refusal.TheVariants.{Unsound, NothingFree}
 use Rattle.drive.specs.Address.{lda, address}
 use Rattle.drive.specs.Laws.{pda_pos}
-use Rattle.drive.specs.Names.{nil_new}
+use Rattle.drive.proofs.Names.{nil_new}
 use Rattle.image.specs.View.{View, Rec, after, pair, put, put2, blank}
 use Rattle.image.specs.Image.{view}
 use Rattle.volume.specs.Words.{serial_at, relative_at, filler_at, next_at, previous_at, free_head_at, free_tail_at, number_free_at, partition_start_at, partition_end_at}
 use Rattle.volume.specs.Files.{partition_of, inside, candidate, well_formed, is_file, owned, files, unowned, free, sound, block_at}
 use Rattle.volume.specs.declared.Partition.{Partition}
-use Rattle.volume.specs.Frame.{Clean, of_clean}
-use Rattle.volume.specs.Reads.{candidate_in}
+use Rattle.volume.proofs.Frame.{Clean, of_clean}
+use Rattle.volume.proofs.Readings.{candidate_in}
 use Rattle.volume.specs.Table as table
 use Rattle.volume.specs.Plans.{as_filler, freed, repaired_pib, repair_plan, repair_stores}
 use Rattle.volume.specs.Answers.{partition, in_partition, checked, check_in, check_clean, tallied}
@@ -27,9 +27,9 @@ use Rattle.volume.specs.declared.Outcome.TheVariants.{Done, Refused}
 use Rattle.volume.specs.declared.Part.{Part}
 use Rattle.volume.specs.declared.Part.TheVariants as part
 use Rattle.frame.specs.Reading.{put2_off}
-use Rattle.frame.specs.Mended.{mended_agree, free_is, sound_is}
+use Rattle.frame.proofs.Mended.{mended_agree, free_is, sound_is}
 use Rattle.frame.specs.Repair.{repaired_free}
-use Rattle.frame.specs.Restart.{target, target_else, target_pib, repair_of, after_val, hits_tab_in, hits_pib}
+use Rattle.frame.proofs.Restart.{target, target_else, target_pib, repair_of, after_val, hits_tab_in, hits_pib}
 use Rattle.frame.specs.Sound.{sound_clean, some_free}
 use Rattle.crash.specs.SameFile.{agree_same}
 use Rattle.crash.specs.Held.{Held, placed}

@@ -13,10 +13,10 @@ use Rattle.drive.specs.Laws.{pda_back}
 use Rattle.image.specs.View.{View, pair}
 use Rattle.volume.specs.Words.{serial_at, relative_at, last_address_at}
 use Rattle.volume.specs.Keys.{home, key_of, number, reach, up, slot, first, low, span}
-use Rattle.volume.specs.KeyLaws.{level, up_level, level_few, level_zero, low_home, asked_low, asked_high, last_asked, span_end, fib_keys, near_keys, key_number, number_home, number_fib}
+use Rattle.volume.proofs.KeyLaws.{level, up_level, level_few, level_zero, low_home, asked_low, asked_high, last_asked, span_end, fib_keys, near_keys, key_number, number_home, number_fib}
 use Rattle.volume.specs.Files.{inside, serial, candidate, len, spot_in, present_in, spot, present, entry, named, key_test, nil_test, indexed, full_test, gapless, tally, well_formed, is_file, file_of, key, owned}
 use Rattle.volume.specs.declared.Partition.{Partition}
-use Rattle.volume.specs.Reads.{off_pib}
+use Rattle.volume.proofs.Readings.{off_pib}
 
 -- a test at every key that n blocks can ask for
 module _ (n : ℕ) (P : ℕ → Bool) where

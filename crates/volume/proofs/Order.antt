@@ -11,10 +11,10 @@ use Rattle.base.specs.Sums.{count_nil}
 use Rattle.image.specs.View.{View}
 use Rattle.volume.specs.Search.{seek, down, Least, Greatest, seek_least, down_greatest}
 use Rattle.volume.specs.Keys.{home, low, reach, span}
-use Rattle.volume.specs.KeyLaws.{low_pos, span_end}
+use Rattle.volume.proofs.KeyLaws.{low_pos, span_end}
 use Rattle.volume.specs.Files.{well_formed, len, present, above, below, least, size}
 use Rattle.volume.specs.declared.Partition.{Partition}
-use Rattle.volume.specs.Index.{wf_of, present_low, present_high, present_home}
+use Rattle.volume.proofs.Index.{wf_of, present_low, present_high, present_home}
 
 -- ---- of a test of numbers
 

@@ -8,16 +8,17 @@ use Prim.Native.Nat.{ℕ, zero, suc, ◌+◌, ◌-◌, ◌*◌, ◌/◌, ◌%◌
 use Rattle.std.proofs.lemmas.Bool.{eqb-false}
 use Rattle.base.specs.Tests.{pick, tab_from, head_of, last_of}
 use Rattle.drive.specs.Address.{address}
-use Rattle.drive.specs.Names.{address_twice}
+use Rattle.drive.proofs.Names.{address_twice}
 use Rattle.image.specs.View.{View, Rec, Store, after, upd, pair, put, put2}
 use Rattle.base.specs.Laws.{pick_same}
 use Rattle.volume.specs.Words.{next_at, previous_at, free_head_at, free_tail_at}
 use Rattle.volume.specs.Files.{len, file_of, key, owned, unowned, above, below, link}
 use Rattle.volume.specs.declared.Partition.{Partition}
-use Rattle.volume.specs.Index.{own, file_candidate, owned_not_pib}
-use Rattle.volume.specs.Frame.{Shape, Clean, Formed, formed, kept_len, agree_owned, agree_unowned, agree_file_of, agree_key, kept_next, kept_prev}
+use Rattle.volume.proofs.Index.{own, file_candidate, owned_not_pib}
+use Rattle.volume.proofs.Frame.{Shape, Clean, Formed, formed, kept_len, agree_owned, agree_unowned, agree_file_of, agree_key, kept_next, kept_prev}
 use Rattle.volume.specs.Plans.{st, shaped, content, relinked, freed, repaired, repaired_pib, repair_plan, stores, repair_stores}
-use Rattle.frame.specs.Repair.{links_off, shaped_twice, Mid, mid_agree, repaired_mine, repaired_free}
+use Rattle.frame.specs.Repair.{links_off, shaped_twice, Mid, repaired_mine, repaired_free}
+use Rattle.frame.proofs.Repair.{mid_agree}
 use Rattle.frame.specs.Reading.{word}
 
 -- ---- stores that all write the record that R has for their block

@@ -9,11 +9,11 @@ use Rattle.std.proofs.lemmas.Bool.{eqb-false}
 use Rattle.base.specs.Tests.{pick}
 use Rattle.image.specs.View.{View, Rec}
 use Rattle.volume.specs.Keys.{home}
-use Rattle.volume.specs.KeyLaws.{first_pointer, up_most}
+use Rattle.volume.proofs.KeyLaws.{first_pointer, up_most}
 use Rattle.volume.specs.Files.{end, present, above, below, least}
 use Rattle.volume.specs.declared.Partition.{Partition}
-use Rattle.volume.specs.Index.{present_home, wf_of}
-use Rattle.volume.specs.Order.{least_present}
+use Rattle.volume.proofs.Index.{present_home, wf_of}
+use Rattle.volume.proofs.Order.{least_present}
 use Rattle.volume.specs.Writes.{over, inner, needs, is_new, present', above', below', early}
 use Rattle.growth.specs.Ready.{Ready}
 use Rattle.growth.specs.Path.{over_zero, over_up, over_top, over_far, by_needs, needs_some, needs_few, held_on, placed, new_at, new_not_home}

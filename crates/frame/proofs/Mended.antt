@@ -11,21 +11,22 @@ use Rattle.base.specs.Tests.{pick, both, every, all, head_of, last_of, occ}
 use Rattle.base.specs.Tests as tests
 use Rattle.base.specs.Laws.{cons_same, all_of, both_of}
 use Rattle.drive.specs.Address.{lda_block, or_nil, is_lda}
-use Rattle.drive.specs.Names.{lda_block_is, address_names}
+use Rattle.drive.proofs.Names.{lda_block_is, address_names}
 use Rattle.image.specs.View.{View, Rec, Store, after, pair, put, put2}
 use Rattle.volume.specs.Words.{next_at, previous_at}
 use Rattle.volume.specs.Keys.{home, child, first}
-use Rattle.volume.specs.KeyLaws.{child_pair}
+use Rattle.volume.proofs.KeyLaws.{child_pair}
 use Rattle.volume.specs.Files.{within, candidate, len, spot, present, well_formed, file_of, key, owned, unowned, above, below, link, tail_test, link_test, linked, free, free_head, chain, chained, sound, free_sound}
 use Rattle.volume.specs.declared.Partition.{Partition}
-use Rattle.volume.specs.Index.{file_back, key_back, member_owned, owned_in, span_of, unless_of, or_of}
-use Rattle.volume.specs.Frame.{Shape, Clean, Formed, formed, Agree, kept_len, agree_clean, agree_owned, agree_file_of, agree_key}
+use Rattle.volume.proofs.Index.{file_back, key_back, member_owned, owned_in, span_of, unless_of, or_of}
+use Rattle.volume.proofs.Frame.{Shape, Clean, Formed, formed, Agree, kept_len, agree_clean, agree_owned, agree_file_of, agree_key}
 use Rattle.volume.specs.Plans.{trimmed, shaped, content, relinked, freed, repaired, repaired_pib, repair_stores}
-use Rattle.frame.specs.Repair.{links_off, mid_agree, repaired_mine, repaired_free}
-use Rattle.frame.specs.Restart.{Part, start, again, target, target_else, target_pib, repair_of, after_val, hits_tab_in, hits_pib, next_same, prev_same}
+use Rattle.frame.specs.Repair.{links_off, repaired_mine, repaired_free}
+use Rattle.frame.proofs.Repair.{mid_agree}
+use Rattle.frame.proofs.Restart.{Part, start, again, target, target_else, target_pib, repair_of, after_val, hits_tab_in, hits_pib, next_same, prev_same}
 use Rattle.frame.specs.Chain.{walk, Next, Prev, above_those, below_those, chained_those, within_those, occ_in}
 use Rattle.frame.specs.Reading.{word}
-use Rattle.volume.specs.Reads.{inside_of}
+use Rattle.volume.proofs.Readings.{inside_of}
 
 module _ (π : Partition) (v : View) (c : Clean π v) where
   abbrev mended : View

@@ -4,7 +4,7 @@ use Rattle.image.specs.View.{View, Store, after, upd}
 use Rattle.volume.specs.Files.{unowned, candidate, well_formed}
 use Rattle.volume.specs.declared.Partition.{Partition}
 use Rattle.volume.specs.Plans.{Plan}
-use Rattle.frame.specs.Turn.{Each, Calm, Turn}
+use Rattle.frame.proofs.Turn.{Each, Calm, Turn}
 
 pub record Decides (π : Partition) (v : View) (before : List Store) (x : Store) (rest : List Store) (f : ℕ) : Type 0 where
   pub early : Each (Calm π v) before

@@ -15,14 +15,14 @@ use Rattle.drive.specs.Address.{pda, or_nil}
 use Rattle.image.specs.View.{View}
 use Rattle.volume.specs.Search.{seek}
 use Rattle.volume.specs.Keys.{home, low, span}
-use Rattle.volume.specs.KeyLaws.{low_pos, low_home, span_end}
+use Rattle.volume.proofs.KeyLaws.{low_pos, low_home, span_end}
 use Rattle.volume.specs.Files.{within, candidate, len, spot, present, well_formed, above, least, link, size, chained, key}
 use Rattle.volume.specs.declared.Partition.{Partition}
-use Rattle.volume.specs.Index.{wf_of, member, key_back, present_low, present_high}
-use Rattle.volume.specs.Order.{Prev, prev_one, least_present, below_prev}
+use Rattle.volume.proofs.Index.{wf_of, member, key_back, present_low, present_high}
+use Rattle.volume.proofs.Order.{Prev, prev_one, least_present, below_prev}
 use Rattle.frame.specs.Chain.{occ_in, length_those}
-use Rattle.frame.specs.FreeChain.{Links}
-use Rattle.volume.specs.Reads.{or_pda}
+use Rattle.frame.proofs.FreeChain.{Links}
+use Rattle.volume.proofs.Readings.{or_pda}
 
 -- the first of a list is what a search finds
 pub head_seek : (n k : ℕ) (P : ℕ → Bool) → head_of 0 (those k n P) ≡ seek n k P

@@ -10,15 +10,15 @@ use Rattle.base.specs.Laws.{pick_same, cons_same, iff_eq, both_left, both_of}
 use Rattle.drive.specs.Address.{pda, pda_block, lda_block, is_lda}
 use Rattle.image.specs.View.{View, Rec, pair}
 use Rattle.volume.specs.Words.{last_block_at, last_address_at, in_use_at, low_number_at, low_address_at}
-use Rattle.volume.specs.Order.{least_present, above_next, below_prev}
+use Rattle.volume.proofs.Order.{least_present, above_next, below_prev}
 use Rattle.volume.specs.Search.{seek, down, seek_same, down_same, count_same}
 use Rattle.volume.specs.Keys.{home, key_of, number, reach, up, slot, first, low, span}
-use Rattle.volume.specs.KeyLaws.{key_ind}
+use Rattle.volume.proofs.KeyLaws.{key_ind}
 use Rattle.volume.specs.Files.{candidate, len, spot, present, entry, well_formed, is_file, is_malformed, file_of, key, owned, files, unowned, above, below, least, size, tally, link}
 use Rattle.volume.specs.declared.Partition.{Partition}
 use Rattle.volume.specs.Answers.{lowest_malformed, Unmarred}
-use Rattle.volume.specs.Reads.{candidate_in, lowest_none, none_lowest}
-use Rattle.volume.specs.Index.{here_of, of_here, spot_home, spot_step, present_home, Member, WF, wf_of, of_wf, own, owned_by, file_candidate}
+use Rattle.volume.proofs.Readings.{candidate_in, lowest_none, none_lowest}
+use Rattle.volume.proofs.Index.{here_of, of_here, spot_home, spot_step, present_home, Member, WF, wf_of, of_wf, own, owned_by, file_candidate}
 
 -- two records with the same serial and relative number
 pub record SameHead (r r' : Rec) : Type 0 where

@@ -14,11 +14,11 @@ use Rattle.image.specs.View.{View, Rec, pair, put2}
 use Rattle.volume.specs.Words.{next_at, previous_at}
 use Rattle.volume.specs.Files.{inside, within, owned, free, free_head, chained, sound}
 use Rattle.volume.specs.declared.Partition.{Partition}
-use Rattle.drive.specs.Names.{address_names}
+use Rattle.drive.proofs.Names.{address_names}
 use Rattle.volume.specs.Plans.{free_at, new_first, pib_less}
 use Rattle.frame.specs.Reading.{two, put2_off, put2_here, put_off}
 use Rattle.frame.specs.Sound.{Starts, occ_here, occ_more, after₁, firsts, free_starts, free_in, free_not, free_once, sound_once, sound_within, sound_chained, sound_tail, sound_number}
-use Rattle.frame.specs.FreeChain.{IsFree}
+use Rattle.frame.proofs.FreeChain.{IsFree}
 use Rattle.frame.specs.Taking.{occ_append, from, from_next, free_from, occ_from}
 use Rattle.frame.specs.Joined.{within_end, chained_end, chained_links, last_both}
 

@@ -13,10 +13,11 @@ use Rattle.image.specs.View.{View, Rec, Store, after, upd}
 use Rattle.volume.specs.Keys.{home}
 use Rattle.volume.specs.Files.{inside, candidate, well_formed, spot, present, file_of, key, owned}
 use Rattle.volume.specs.declared.Partition.{Partition}
-use Rattle.volume.specs.Index.{spot_home, present_home, own, file_candidate, member_owned, file_back, owned_in}
-use Rattle.volume.specs.Frame.{SameHead, Kept, Clean, Agree, kept_present, kept_spot, kept_well_formed}
-use Rattle.frame.specs.Soft.{headed, headed_is, cand_in, Soft, Quiet, soft_refl, soft_agree, soft_kept, cand_same}
-use Rattle.volume.specs.Reads.{off_pib}
+use Rattle.volume.proofs.Index.{spot_home, present_home, own, file_candidate, member_owned, file_back, owned_in}
+use Rattle.volume.proofs.Frame.{SameHead, Kept, Clean, Agree, kept_present, kept_spot, kept_well_formed}
+use Rattle.frame.specs.Soft.{headed, headed_is, cand_in, Soft, Quiet, soft_refl, soft_kept, cand_same}
+use Rattle.frame.proofs.Soft.{soft_agree}
+use Rattle.volume.proofs.Readings.{off_pib}
 
 -- P holds of each store's block and record
 abbrev pub Each : (ℕ → Rec → Type 0) → List Store → Type 0

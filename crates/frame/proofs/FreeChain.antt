@@ -15,16 +15,16 @@ use Rattle.image.specs.View.{View, Rec, pair}
 use Rattle.base.specs.Laws.{cons_same, all_at, all_of, every_at, both_left, both_right, both_of}
 use Rattle.base.specs.Sums.{sum, sum_add, sum_nil, sum_most, sum_here, sum_same, count_sum}
 use Rattle.volume.specs.Words.{next_at, previous_at, slot_at, free_head_at, free_tail_at, number_free_at}
-use Rattle.volume.specs.Keys.{home, number, child, first}
+use Rattle.volume.specs.Keys.{home, child, first}
 use Rattle.volume.specs.Files.{inside, within, candidate, len, spot, present, well_formed, owned, above, below, link, link_test, linked, free, chain, chained, sound, free_sound, file_of, block_at}
 use Rattle.volume.specs.declared.Partition.{Partition}
-use Rattle.volume.specs.Index.{span_at, span_of, unless_at, unless_of, or_at, or_of, present_low, present_high, member_owned, file_back}
-use Rattle.volume.specs.Frame.{Clean, Shape, kept_len, kept_present, kept_spot, kept_next, kept_prev}
+use Rattle.volume.proofs.Index.{span_at, span_of, unless_at, unless_of, or_at, or_of, present_low, present_high, member_owned, file_back}
+use Rattle.volume.proofs.Frame.{Clean, Shape, kept_len, kept_present, kept_spot, kept_next, kept_prev}
 use Rattle.frame.specs.Reading.{two}
-use Rattle.drive.specs.Names.{lda_block_is}
+use Rattle.drive.proofs.Names.{lda_block_is}
 use Rattle.frame.specs.Chain.{chain_end, chain_on}
-use Rattle.volume.specs.Reads.{inside_of, or_pda, of_inside}
-use Rattle.frame.specs.Turn.{Turn}
+use Rattle.volume.proofs.Readings.{inside_of, or_pda, of_inside}
+use Rattle.frame.proofs.Turn.{Turn}
 use Rattle.frame.specs.Sound.{sound_clean, sound_linked}
 
 module _ (π : Partition) (v : View) (f : ℕ) where
