@@ -15,8 +15,8 @@ use Rattle.frame.specs.Fitting.{Words}
 use Rattle.crash.specs.SameFile.{SameFiles}
 use Rattle.crash.specs.Lawful.{Placed}
 use Rattle.crash.specs.Effect.{Created, Written, Described}
-use Rattle.crash.specs.Owes.{Owes, create_owes, describe_owes, replace_owes, destroy_owes, repair_owes}
-use Rattle.crash.specs.Write.{write_owes}
+use Rattle.crash.proofs.Owes.{Owes, create_owes, describe_owes, replace_owes, destroy_owes, repair_owes}
+use Rattle.crash.proofs.Write.{write_owes}
 
 pub data Settled (π : Partition) (v : View) (f : ℕ) (E : View → Type 0) : Planned → Type 0 where
   refused : (y : Refusal) → Settled π v f E (refuse y)

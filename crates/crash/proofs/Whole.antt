@@ -12,7 +12,7 @@ use Rattle.frame.proofs.Turn.{Each, each_map, after_miss, after_append, turn_cle
 use Rattle.frame.proofs.Decides.{Decides}
 use Rattle.frame.specs.Sound.{spare_block, sound_clean}
 use Rattle.frame.proofs.FreeChain.{Links, links_kept, IsFree, sound_of}
-use Rattle.crash.specs.Cut.{whole_agrees}
+use Rattle.crash.proofs.Cut.{whole_agrees}
 
 module _ (π : Partition) (g : π.s < π.e) (p : 0 < π.s) (v : View) (ok : sound π v ≡ true) (before : List Store) (x : Store) (rest : List Store) (f : ℕ) (y : Decides π v before x rest f) where
   D : View

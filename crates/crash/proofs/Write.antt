@@ -9,9 +9,11 @@ use Rattle.volume.specs.Plans.{stores}
 use Rattle.volume.specs.Writes.{over, spot', write_plan}
 use Rattle.frame.specs.Fitting.{Words}
 use Rattle.crash.specs.SameFile.{data_here}
-use Rattle.crash.specs.Lawful.{Placed, Lawful, inner, first_lawful, less_lawful}
-use Rattle.crash.specs.Effect.{Written, here_data}
-use Rattle.crash.specs.Owes.{Owes}
+use Rattle.crash.specs.Lawful.{Placed, Lawful}
+use Rattle.crash.proofs.Lawful.{inner, first_lawful, less_lawful}
+use Rattle.crash.specs.Effect.{Written}
+use Rattle.crash.proofs.Effect.{here_data}
+use Rattle.crash.proofs.Owes.{Owes}
 use Rattle.growth.specs.Promise.{Writing, Grew}
 use Rattle.growth.proofs.Promise.{write_good, write_sound, write_grew, write_each, spot_in_inside, first_in, grown_fits}
 

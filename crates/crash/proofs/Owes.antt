@@ -18,11 +18,12 @@ use Rattle.frame.proofs.Mended.{sound_is}
 use Rattle.frame.specs.Fitting.{Words}
 use Rattle.crash.specs.SameFile.{SameFiles}
 use Rattle.crash.specs.Lawful.{Placed, Lawful}
-use Rattle.crash.specs.LawfulRepair.{repair_lawful}
-use Rattle.crash.specs.Create.{create_good, create_sound, create_lawful}
-use Rattle.crash.specs.OneBlock.{describe_good, describe_sound, replace_good, replace_sound, describe_lawful, replace_lawful}
-use Rattle.crash.specs.Destroy.{destroy_good, destroy_sound, destroy_lawful}
-use Rattle.crash.specs.Effect.{Created, Written, Described, here_data, created, described, replaced, removed, mended_same}
+use Rattle.crash.proofs.LawfulRepair.{repair_lawful}
+use Rattle.crash.proofs.Create.{create_good, create_sound, create_lawful}
+use Rattle.crash.proofs.OneBlock.{describe_good, describe_sound, replace_good, replace_sound, describe_lawful, replace_lawful}
+use Rattle.crash.proofs.Destroy.{destroy_good, destroy_sound, destroy_lawful}
+use Rattle.crash.specs.Effect.{Created, Written, Described}
+use Rattle.crash.proofs.Effect.{here_data, created, described, replaced, removed, mended_same}
 use Rattle.volume.proofs.Readings.{candidate_in}
 
 -- a plan changes file f alone, at its deciding store; whole, it leaves a sound partition, in which E holds; each of its stores is lawful

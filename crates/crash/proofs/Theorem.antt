@@ -14,16 +14,16 @@ use Rattle.frame.proofs.Turn.{Each, each_take}
 use Rattle.volume.specs.Calls.{Call, create, write, describe, destroy, repair, Planned, planned, decided}
 use Rattle.volume.specs.declared.Found.TheVariants.{At}
 use Rattle.crash.specs.SameFile as views
-use Rattle.crash.specs.SameFile.{file_trans, file_refl, file_same, same_bytes}
+use Rattle.crash.proofs.SameFile.{file_trans, file_refl, file_same, same_bytes}
 use Rattle.crash.specs.Cut as cuts
-use Rattle.crash.specs.Cut.{survives}
+use Rattle.crash.proofs.Cut.{survives}
 use Rattle.crash.specs.Lawful.{Lawful}
-use Rattle.crash.specs.LawfulRepair.{repair_lawful}
-use Rattle.crash.specs.Settled.{Settled, refused, done}
-use Rattle.crash.specs.Stopped.{whole_sound, whole_others, stopped_survives}
+use Rattle.crash.proofs.LawfulRepair.{repair_lawful}
+use Rattle.crash.proofs.Settled.{Settled, refused, done}
+use Rattle.crash.proofs.Stopped.{whole_sound, whole_others, stopped_survives}
 use Rattle.crash.specs.Effect.{Effect}
-use Rattle.crash.specs.Held.{Held, placed, end_is, view_after, length_after, held_after}
-use Rattle.crash.specs.Accepting.{Sound, sound_accepted, accepted_sound, block, settled, repair_is}
+use Rattle.crash.proofs.Held.{Held, placed, end_is, view_after, length_after, held_after}
+use Rattle.crash.proofs.Accepting.{Sound, sound_accepted, accepted_sound, block, settled, repair_is}
 use Rattle.crash.specs.Statement.{Proper, AllProper, is_done, stopped, whole, runs, Repairs, none, again, here, SameContent, SameFile, named, Survives, Demand3}
 use Rattle.volume.proofs.Readings.{candidate_in}
 use Rattle.volume.proofs.Index.{file_candidate}

@@ -29,7 +29,8 @@ use Rattle.crash.specs.FreeBlocks.{first_free, first_in, own_file, spot≢fib, s
 use Rattle.frame.specs.Joined.{chained_links}
 use Rattle.volume.proofs.Readings.{off_pib}
 use Rattle.volume.specs.Words.{next_at, previous_at}
-use Rattle.crash.specs.Lawful.{Placed, Lawful, inner}
+use Rattle.crash.specs.Lawful.{Placed, Lawful}
+use Rattle.crash.proofs.Lawful.{inner}
 use Rattle.frame.specs.Fitting.{Words, text_fits, data_fits}
 
 -- r instead of the record of b, which is no pointer block: f's content alone is changed

@@ -27,10 +27,10 @@ use Rattle.volume.specs.declared.Part.{Part}
 use Rattle.volume.specs.declared.Part.TheVariants as part
 use Rattle.volume.specs.declared.Outcome.TheVariants.{Refused}
 use Rattle.frame.specs.Fitting.{words_of}
-use Rattle.crash.specs.Settled.{Settled, refused, create_settled, describe_settled, destroy_settled, write_settled, repair_settled}
+use Rattle.crash.proofs.Settled.{Settled, refused, create_settled, describe_settled, destroy_settled, write_settled, repair_settled}
 use Rattle.crash.specs.SameFile.{SameFiles}
 use Rattle.crash.specs.Effect.{Effect}
-use Rattle.crash.specs.Held.{Held, placed}
+use Rattle.crash.proofs.Held.{Held, placed}
 use Rattle.crash.specs.Statement.{Proper, is_done, Accepted}
 
 -- ---- acceptance

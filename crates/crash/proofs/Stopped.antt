@@ -12,10 +12,12 @@ use Rattle.volume.proofs.Frame.{Clean}
 use Rattle.volume.specs.Plans.{stores}
 use Rattle.frame.specs.Sound.{sound_clean, spare_block}
 use Rattle.volume.specs.Calls.{Planned, decided}
-use Rattle.crash.specs.SameFile.{SameFile, file_refl}
-use Rattle.crash.specs.Cut.{Repairs, Survives, survives, cut_before, cut_after, others_same}
+use Rattle.crash.specs.SameFile.{SameFile}
+use Rattle.crash.proofs.SameFile.{file_refl}
+use Rattle.crash.specs.Cut.{Repairs, Survives}
+use Rattle.crash.proofs.Cut.{survives, cut_before, cut_after, others_same}
 use Rattle.crash.specs.Lawful.{Placed}
-use Rattle.crash.specs.Settled.{Settled, refused, done}
+use Rattle.crash.proofs.Settled.{Settled, refused, done}
 
 none : (k : ℕ) (v : View) → after (take k []) v ≡ v
 unfolding after

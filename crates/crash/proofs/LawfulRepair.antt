@@ -12,7 +12,8 @@ use Rattle.frame.specs.Reading.{put2_off}
 use Rattle.frame.proofs.Turn.{Each, each_append}
 use Rattle.frame.specs.Chain.{head_in, last_in, length_most}
 use Rattle.frame.specs.Fitting.{put2_fits}
-use Rattle.crash.specs.Lawful.{Placed, Lawful, address_fits, at_pib}
+use Rattle.crash.specs.Lawful.{Placed, Lawful}
+use Rattle.crash.proofs.Lawful.{address_fits, at_pib}
 use Rattle.frame.specs.Fitted.{unowned_in, repaired_fits}
 
 module _ {π : Partition} {v : View} (at : Placed π v) where

@@ -30,14 +30,16 @@ use Rattle.frame.specs.Sound.{tail_free, sound_clean, sound_once, sound_within, 
 use Rattle.frame.proofs.FreeChain.{IsFree, links_others}
 use Rattle.frame.specs.Taking.{occ_append}
 use Rattle.frame.proofs.Listed.{blocks, blocks_length, within_blocks, last_blocks}
-use Rattle.crash.specs.Whole.{W_owned, keeps_sound}
+use Rattle.crash.proofs.Whole.{W_owned, keeps_sound}
 use Rattle.crash.specs.FreeBlocks.{first_free, first_in, own_file, free≢spot, free≢fib, spot_unique, spot_in_inside}
-use Rattle.crash.specs.Gone.{gone_zero, top_zero, fib_zero, gone_word, top_word, fib_word_is, top_prev, fib_prev, gone_fits, top_fits, fib_fits}
+use Rattle.crash.specs.Gone.{gone_zero, top_zero, gone_word, top_word, top_prev, gone_fits, top_fits}
+use Rattle.crash.proofs.Gone.{fib_zero, fib_word_is, fib_prev, fib_fits}
 use Rattle.frame.specs.Joined.{within_both, head_both, last_both}
 use Rattle.crash.specs.Returned.{Behind, occ_blocks, ways}
 use Rattle.volume.proofs.Readings.{off_pib}
 use Rattle.base.specs.Laws.{never}
-use Rattle.crash.specs.Lawful.{Placed, Lawful, pda_fits, address_fits, le_end, inner, at_pib}
+use Rattle.crash.specs.Lawful.{Placed, Lawful}
+use Rattle.crash.proofs.Lawful.{pda_fits, address_fits, le_end, inner, at_pib}
 use Rattle.frame.specs.Fitting.{put2_fits}
 use Rattle.frame.specs.Chain.{chain_short}
 use Rattle.base.specs.Sums.{count_both}

@@ -31,15 +31,15 @@ use Rattle.volume.specs.declared.Part.TheVariants as part
 use Rattle.volume.specs.declared.Outcome.TheVariants.{Done, Refused}
 use Rattle.frame.proofs.Restart as restart
 use Rattle.frame.proofs.Mended.{sound_is}
-use Rattle.crash.specs.Settled.{Settled, refused, done}
-use Rattle.crash.specs.Held.{Held, placed, end_is}
-use Rattle.crash.specs.Accepting.{Sound, sound_accepted, accepted_sound, settled, block}
+use Rattle.crash.proofs.Settled.{Settled, refused, done}
+use Rattle.crash.proofs.Held.{Held, placed, end_is}
+use Rattle.crash.proofs.Accepting.{Sound, sound_accepted, accepted_sound, settled, block}
 use Rattle.crash.specs.Effect.{Effect}
 use Rattle.frame.specs.Needed.{needed, owned_needed}
 use Rattle.crash.specs.Needed.{free_unowned}
 use Rattle.crash.specs.Needed as counts
 use Rattle.crash.specs.Statement.{Repairs, Image, Proper, is_done, Accepted, stopped, whole, here}
-use Rattle.crash.specs.Theorem.{whole_kept, survivor_held, whole_view, stopped_held, cut_clean, mended_held, mended_view, mended_length}
+use Rattle.crash.proofs.Theorem.{whole_kept, survivor_held, whole_view, stopped_held, cut_clean, mended_held, mended_view, mended_length}
 use Rattle.volume.proofs.Readings.{whole_records}
 
 -- ---- a whole changing call, done or refused, keeps a partition sound
