@@ -13,7 +13,6 @@ use Rattle.volume.specs.declared.Partition.{Partition}
 use Rattle.volume.specs.Answers.{lowest, partition, in_partition}
 use Rattle.volume.specs.declared.Found.{Found}
 use Rattle.volume.specs.declared.Found.TheVariants.{At, Nothing}
-use Rattle.volume.specs.declared.Part.TheVariants as part
 use Rattle.volume.specs.declared.Outcome.{Outcome}
 use Rattle.volume.specs.declared.Outcome.TheVariants as call
 use Rattle.directory.specs.declared.Met.{Met}

@@ -8,7 +8,7 @@ use native.Mathlib.Omega.{arith}
 use native.Mathlib.Nat.{sub-zero, zero-sub, suc-sub-suc, not-suc-le-zero}
 use lib.Dec.{ltb, eqb, leb}
 use lib.ListN.{get_or, length, take, drop, set, length-append, length-take, length-drop, length-set, get_or-append, get_or-eq_default, replicate, get_or-replicate, drop_of_length-le}
-use lib.Seq.{get_or-set_same, get_or-set_other, length-take-le, get_or-take, get_or-drop, get_or-append-add, take-nil, take-length, take_all, drop-drop}
+use lib.Seq.{get_or-set_same, get_or-set_other, length-take-le, get_or-take, get_or-drop, get_or-append-add, take-nil, take_all, drop-drop}
 use borrow.Author.Tests.{ltb-true, ltb-false, lt-ltb, le-ltb, eqb-true, eqb-false, leb-true, le-leb, lt-leb}
 use Rattle.base.specs.Tests.{pick, both}
 use Rattle.image.specs.View.{Rec, Store, put, blank}

@@ -1,6 +1,5 @@
 use mathlib.Core.Path.{sym, ◌∙◌}
 use Rattle.append.proofs.Laws.{still_there, base_stamped, base_there}
-use borrow.Author.Rules.{rules}
 use Rattle.append.proofs.base.Goals as goal
 
 pub stamp-requires : goal.stamp-requires

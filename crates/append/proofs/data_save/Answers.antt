@@ -2,7 +2,6 @@ use mathlib.Core.Path.{◌∙◌}
 use Rattle.volume.specs.Writes.{over}
 use Rattle.append.proofs.Numbers.{data_there}
 use Rattle.append.proofs.Laws.{behind, data_new, body_data}
-use borrow.Author.Rules.{rules}
 use Rattle.append.proofs.data_save.Goals as goal
 
 pub stamp-requires : goal.stamp-requires

@@ -1,6 +1,5 @@
 use mathlib.Core.Path.{sym}
 use Rattle.volume.specs.Writes.{put2_if}
-use borrow.Author.Rules.{rules}
 use Rattle.append.proofs.entry_if.Goals as goal
 
 pub lda_of-requires : goal.lda_of-requires

@@ -3,7 +3,6 @@ use borrow.Author.Tests.{eqb-false, not-true}
 use Rattle.base.specs.Laws.{and_left, and_right}
 use Rattle.growth.specs.Grown.{body_inner}
 use Rattle.append.proofs.Row.{stands_on, stands_off}
-use borrow.Author.Rules.{rules}
 use Rattle.append.proofs.inner_save.Goals as goal
 
 pub entered-requires : goal.entered-requires

@@ -1,8 +1,6 @@
 use mathlib.Core.Path.{refl}
-use Prim.Native.Nat.{◌-◌, ◌*◌, ◌≤◌}
 use native.Mathlib.Omega.{arith}
-use borrow.Author.Rules.{rules}
-use Rattle.blocks.specs.Records.{Clearing, clear_starts, clear_next, clear_end}
+use Rattle.blocks.specs.Records.{clear_starts, clear_next, clear_end}
 use Rattle.blocks.proofs.cleared.Goals as goal
 
 pub loop-i-init : goal.loop-i-init

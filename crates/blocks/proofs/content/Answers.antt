@@ -1,5 +1,4 @@
 use mathlib.Core.Path.{ap, ◌∙◌}
-use borrow.Author.Rules.{rules}
 use Rattle.volume.specs.Plans.{trimmed}
 use Rattle.blocks.specs.Records.{shaped_pointer, shaped_other}
 use Rattle.blocks.proofs.content.Goals as goal

@@ -1,4 +1,3 @@
-use borrow.Author.Rules.{rules}
 use Rattle.blocks.specs.Records.{pib_record}
 use Rattle.blocks.proofs.pib.Goals as goal
 

@@ -1,5 +1,4 @@
 use native.Mathlib.Omega.{arith}
-use borrow.Author.Rules.{rules}
 use Rattle.blocks.specs.Relink.{filed, file_opened}
 use Rattle.inspect.proofs.Laws.{opened_len}
 use Rattle.blocks.proofs.relinked.Goals as goal

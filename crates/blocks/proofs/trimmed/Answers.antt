@@ -1,5 +1,4 @@
 use mathlib.Core.Path.{sym, ◌∙◌}
-use borrow.Author.Rules.{rules}
 use Rattle.blocks.specs.Records.{trimmed_is}
 use Rattle.blocks.proofs.trimmed.Goals as goal
 

@@ -2,7 +2,6 @@ use mathlib.Core.Path.{sym, ap, ◌∙◌}
 use Rattle.change.specs.Gate.{enters, shut, gate_opens}
 use Rattle.volume.specs.Calls.{planned, create_in}
 use Rattle.change.proofs.Laws.{answered_not, answered_as}
-use borrow.Author.Rules.{rules}
 use Rattle.change.proofs.create.Goals as goal
 
 pub create_open-requires : goal.create_open-requires

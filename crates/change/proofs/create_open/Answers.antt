@@ -1,7 +1,6 @@
 use native.Mathlib.Omega.{arith}
 use Rattle.base.specs.declared.Refusal.TheVariants.{Full}
 use Rattle.change.proofs.Laws.{answered_not, answered_done, block_pib, block_free_at, free_first, free_next, create_few, create_is}
-use borrow.Author.Rules.{rules}
 use Rattle.change.proofs.create_open.Goals as goal
 
 pub returns-then-room-le1 : goal.returns-then-room-le1

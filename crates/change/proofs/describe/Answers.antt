@@ -2,7 +2,6 @@ use Rattle.volume.specs.Calls.{planned}
 use Rattle.volume.proofs.Readings.{fine_text}
 use Rattle.change.specs.Gate.{gate_at, gate_opens, enters, shut}
 use Rattle.change.proofs.Laws.{answered_not, answered_as}
-use borrow.Author.Rules.{rules}
 use Rattle.change.proofs.describe.Goals as goal
 
 pub describe_open-requires : goal.describe_open-requires

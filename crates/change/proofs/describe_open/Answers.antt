@@ -2,7 +2,6 @@ use mathlib.Core.Path.{sym, ◌∙◌}
 use borrow.Author.Tests.{not-true, not-false}
 use Rattle.base.specs.declared.Refusal.TheVariants.{NoCandidate}
 use Rattle.change.proofs.Laws.{answered_not, answered_done, block_fib, describe_nowhere, describe_is}
-use borrow.Author.Rules.{rules}
 use Rattle.change.proofs.describe_open.Goals as goal
 
 pub returns-then-not-candidate : goal.returns-then-not-candidate

@@ -1,5 +1,4 @@
 use mathlib.Core.Path.{sym, ◌∙◌}
-use borrow.Author.Rules.{rules}
 use Rattle.volume.proofs.Readings.{lies}
 use Rattle.change.specs.Gate.{gate}
 use Rattle.change.proofs.enter.Goals as goal

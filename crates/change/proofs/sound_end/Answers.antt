@@ -1,5 +1,4 @@
 use mathlib.Core.Path.{sym, ◌∙◌}
-use borrow.Author.Rules.{rules}
 use Rattle.verify.proofs.Surveys.{sound_unmarred}
 use Rattle.change.proofs.sound_end.Goals as goal
 

@@ -2,7 +2,6 @@ use mathlib.Core.Path.{sym, ◌∙◌}
 use Rattle.change.specs.Gate.{enters, shut, gate_opens}
 use Rattle.volume.specs.Calls.{planned}
 use Rattle.change.proofs.Laws.{answered_not, answered_as}
-use borrow.Author.Rules.{rules}
 use Rattle.destroy.proofs.destroy.Goals as goal
 
 pub destroy_open-requires : goal.destroy_open-requires

@@ -4,7 +4,6 @@ use Rattle.base.specs.declared.Refusal.TheVariants.{NoCandidate}
 use Rattle.inspect.proofs.Laws.{opened_last, opened_len}
 use Rattle.change.proofs.Laws.{answered_not, answered_done, file_opened}
 use Rattle.destroy.proofs.Laws.{destroy_nowhere, destroy_is, first_here, destroys}
-use borrow.Author.Rules.{rules}
 use Rattle.destroy.proofs.destroy_open.Goals as goal
 
 pub returns-then-not-candidate : goal.returns-then-not-candidate

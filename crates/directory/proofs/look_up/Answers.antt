@@ -1,7 +1,6 @@
 use mathlib.Core.Path.{sym, ◌∙◌}
 use Rattle.volume.proofs.Readings.{lies}
 use Rattle.directory.specs.Directory as defs
-use borrow.Author.Rules.{rules}
 use Rattle.directory.proofs.look_up.Goals as goal
 
 pub look_in-requires : goal.look_in-requires

@@ -1,5 +1,4 @@
 use mathlib.Core.Path.{sym, ◌∙◌}
-use borrow.Author.Rules.{rules}
 use Rattle.drive.specs.Fits.{lda_small}
 use Rattle.drive.proofs.Names.{address_kept, address_new}
 use Rattle.drive.proofs.address.Goals as goal

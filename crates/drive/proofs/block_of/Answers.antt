@@ -1,6 +1,5 @@
 use mathlib.Core.Path.{◌∙◌}
 use native.Mathlib.Omega.{arith}
-use borrow.Author.Rules.{rules}
 use Rattle.drive.specs.Ranges.{place_block}
 use Rattle.drive.proofs.block_of.Goals as goal
 

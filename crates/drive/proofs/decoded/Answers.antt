@@ -1,7 +1,6 @@
 use Prim.Native.Nat.{◌-◌}
 use native.Mathlib.Omega.{arith}
 use borrow.Author.Tests.{lt-ltb, le-ltb}
-use borrow.Author.Rules.{rules}
 use Rattle.drive.specs.Ranges.{boot_converts, place_converts}
 use Rattle.drive.proofs.decoded.Goals as goal
 

@@ -1,6 +1,5 @@
 use mathlib.Core.Path.{sym}
 use Rattle.drive.specs.Laws.{hard_id, soft_id}
-use borrow.Author.Rules.{rules}
 use Rattle.drive.proofs.file_id.Goals as goal
 
 pub returns-then-drive-lt3 : goal.returns-then-drive-lt3

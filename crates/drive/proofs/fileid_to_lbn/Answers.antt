@@ -1,5 +1,4 @@
 use Rattle.drive.specs.Answers.{file_id_to_lbn}
-use borrow.Author.Rules.{rules}
 use Rattle.drive.proofs.fileid_to_lbn.Goals as goal
 
 pub returns : goal.returns

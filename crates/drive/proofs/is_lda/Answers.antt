@@ -1,5 +1,4 @@
 use Rattle.drive.specs.Address.{is_lda}
-use borrow.Author.Rules.{rules}
 use Rattle.drive.proofs.is_lda.Goals as goal
 
 pub returns : goal.returns

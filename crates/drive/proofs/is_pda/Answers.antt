@@ -1,4 +1,3 @@
-use borrow.Author.Rules.{rules}
 use Rattle.drive.specs.Ranges.{pda_is}
 use Rattle.drive.proofs.is_pda.Goals as goal
 

@@ -1,5 +1,4 @@
 use Rattle.drive.specs.Answers.{lbn_to_file_id}
-use borrow.Author.Rules.{rules}
 use Rattle.drive.proofs.lbn_to_fileid.Goals as goal
 
 pub returns : goal.returns

@@ -1,5 +1,4 @@
 use Rattle.drive.specs.Answers.{lbn_to_lda}
-use borrow.Author.Rules.{rules}
 use Rattle.drive.proofs.lbn_to_lda.Goals as goal
 
 pub returns : goal.returns

@@ -1,5 +1,4 @@
 use borrow.Author.Tests.{lt-ltb, le-ltb}
-use borrow.Author.Rules.{rules}
 use Rattle.drive.specs.Answers.{lbn_to_pda}
 use Rattle.drive.proofs.lbn_to_pda.Goals as goal
 

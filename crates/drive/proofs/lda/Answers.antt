@@ -1,6 +1,5 @@
 use mathlib.Core.Path.{sym}
 use Rattle.drive.specs.Laws.{hard_lda, soft_lda}
-use borrow.Author.Rules.{rules}
 use Rattle.drive.proofs.lda.Goals as goal
 
 pub returns-then-drive-lt3 : goal.returns-then-drive-lt3

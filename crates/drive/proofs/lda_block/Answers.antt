@@ -1,7 +1,6 @@
 use mathlib.Core.Path.{sym, ◌∙◌}
 use native.Mathlib.Omega.{arith}
 use Rattle.drive.specs.Laws.{hard_block, soft_block}
-use borrow.Author.Rules.{rules}
 use Rattle.drive.proofs.lda_block.Goals as goal
 
 pub returns-then-drive-lt3 : goal.returns-then-drive-lt3

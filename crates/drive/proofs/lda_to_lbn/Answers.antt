@@ -1,5 +1,4 @@
 use Rattle.drive.specs.Answers.{lda_to_lbn}
-use borrow.Author.Rules.{rules}
 use Rattle.drive.proofs.lda_to_lbn.Goals as goal
 
 pub returns : goal.returns

@@ -3,7 +3,6 @@ use Rattle.drive.specs.Code.{guess, decode}
 use Rattle.drive.specs.Rows.{on_drive, pda_code}
 use Rattle.drive.specs.Address.{pda_block}
 use Rattle.drive.specs.Laws.{soft}
-use borrow.Author.Rules.{rules}
 use Rattle.drive.proofs.pda_block.Goals as goal
 
 pub returns-in-0 : goal.returns-in-0

@@ -1,6 +1,5 @@
 use native.Mathlib.Omega.{arith}
 use borrow.Author.Tests.{lt-ltb}
-use borrow.Author.Rules.{rules}
 use Rattle.drive.specs.Answers.{pda_to_lbn}
 use Rattle.drive.proofs.pda_to_lbn.Goals as goal
 

@@ -1,5 +1,4 @@
 use Rattle.volume.specs.Plans.{stores, gone, last_gone_stores, destroyed}
-use borrow.Author.Rules.{rules}
 use Rattle.erase.proofs.destroy_store.Goals as goal
 
 pub returns : goal.returns

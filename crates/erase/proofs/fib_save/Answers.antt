@@ -1,6 +1,5 @@
 use Rattle.volume.specs.Plans.{fib_gone}
 use Rattle.records.proofs.Laws.{stands}
-use borrow.Author.Rules.{rules}
 use Rattle.erase.proofs.fib_save.Goals as goal
 
 pub returns-then-alone : goal.returns-then-alone

@@ -1,7 +1,6 @@
 use mathlib.Core.Path.{sym}
 use Rattle.volume.specs.Plans.{last_gone_stores}
 use Rattle.records.proofs.Laws.{stands, stands_none}
-use borrow.Author.Rules.{rules}
 use Rattle.erase.proofs.last_save.Goals as goal
 
 pub returns-then-empty : goal.returns-then-empty

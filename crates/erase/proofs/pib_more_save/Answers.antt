@@ -1,6 +1,5 @@
 use Rattle.volume.specs.Plans.{pib_more}
 use Rattle.records.proofs.Laws.{stands}
-use borrow.Author.Rules.{rules}
 use Rattle.erase.proofs.pib_more_save.Goals as goal
 
 pub returns : goal.returns

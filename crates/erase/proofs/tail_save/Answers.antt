@@ -1,5 +1,4 @@
 use Rattle.records.proofs.Laws.{stands}
-use borrow.Author.Rules.{rules}
 use Rattle.erase.proofs.tail_save.Goals as goal
 
 pub returns : goal.returns

@@ -1,5 +1,4 @@
 use Rattle.volume.specs.Plans.{gone, top_gone}
-use borrow.Author.Rules.{rules}
 use Rattle.erase.proofs.top_gone.Goals as goal
 
 pub returns : goal.returns

@@ -1,7 +1,6 @@
 use mathlib.Core.Path.{sym}
 use Rattle.volume.specs.Plans.{top_gone_stores}
 use Rattle.records.proofs.Laws.{stands, stands_none}
-use borrow.Author.Rules.{rules}
 use Rattle.erase.proofs.top_save.Goals as goal
 
 pub returns-then-alone : goal.returns-then-alone

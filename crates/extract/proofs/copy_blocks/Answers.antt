@@ -1,8 +1,8 @@
 use mathlib.Core.Path.{sym, ◌∙◌}
-use Prim.Native.Nat.{◌+◌, ◌-◌, ◌*◌}
+use Prim.Native.Nat.{◌+◌, ◌*◌}
 use native.Mathlib.Omega.{arith}
 use Rattle.reading.proofs.Laws.{part_long}
-use Rattle.extract.proofs.Laws.{Copied, copied_none, copied_next, copied_all}
+use Rattle.extract.proofs.Laws.{copied_none, copied_next, copied_all}
 use Rattle.extract.proofs.copy_blocks.Goals as goal
 
 pub loop-r-init : goal.loop-r-init

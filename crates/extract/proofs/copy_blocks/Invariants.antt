@@ -1,8 +1,5 @@
-use mathlib.Core.Path.{sym, ◌∙◌}
-use Prim.Native.Nat.{◌+◌, ◌-◌, ◌*◌}
-use native.Mathlib.Omega.{arith}
-use Rattle.reading.proofs.Laws.{part_long}
-use Rattle.extract.proofs.Laws.{Copied, copied_none, copied_next, copied_all}
+use Prim.Native.Nat.{◌-◌}
+use Rattle.extract.proofs.Laws.{Copied}
 use Rattle.extract.proofs.copy_blocks.Given as goal
 
 abbrev pub invariant-loop-r : goal.invariant-loop-r

@@ -2,7 +2,6 @@ use mathlib.Core.Path.{sym, ◌∙◌}
 use Rattle.volume.specs.Answers.{extracted}
 use Rattle.volume.proofs.Readings.{lies}
 use Rattle.extract.specs.Into.{extracted_into}
-use borrow.Author.Rules.{rules}
 use Rattle.extract.proofs.extract.Goals as goal
 
 pub extract_in-requires : goal.extract_in-requires

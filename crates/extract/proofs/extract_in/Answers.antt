@@ -5,7 +5,6 @@ use Rattle.volume.specs.Answers.{extract_in}
 use Rattle.volume.proofs.Readings.{candidate_in}
 use Rattle.volume.specs.declared.Outcome.TheVariants.{Done}
 use Rattle.inspect.proofs.Laws.{wf_opened, opened_len}
-use borrow.Author.Rules.{rules}
 use Rattle.extract.proofs.extract_in.Goals as goal
 
 pub returns-then-not-candidate : goal.returns-then-not-candidate

@@ -1,5 +1,4 @@
 use Rattle.image.proofs.Laws.{then}
-use borrow.Author.Rules.{rules}
 use Rattle.image.proofs.five.Goals as goal
 
 pub returns : goal.returns

@@ -1,5 +1,4 @@
 use Rattle.image.proofs.Laws.{then, made}
-use borrow.Author.Rules.{rules}
 use Rattle.image.proofs.perform_ten.Goals as goal
 
 pub returns : goal.returns

@@ -1,5 +1,4 @@
 use Rattle.image.proofs.Laws.{put_lay}
-use borrow.Author.Rules.{rules}
 use Rattle.image.proofs.put_at.Goals as goal
 
 pub returns : goal.returns

@@ -3,7 +3,6 @@ use Prim.Native.Nat.{◌+◌, ◌-◌, ◌*◌}
 use native.Mathlib.Omega.{arith}
 use Rattle.image.specs.Image.{rec_of}
 use Rattle.image.proofs.Laws.{copied_out}
-use borrow.Author.Rules.{rules}
 use Rattle.image.proofs.record.Goals as goal
 
 pub returns : goal.returns

@@ -1,6 +1,5 @@
 use Rattle.image.specs.Saves.{saves}
 use Rattle.image.proofs.Laws.{step_made, step_full, step_off}
-use borrow.Author.Rules.{rules}
 use Rattle.image.proofs.step.Goals as goal
 
 pub returns-then-left-gt0 : goal.returns-then-left-gt0

@@ -2,7 +2,6 @@ use Prim.Native.Nat.{◌-◌, ◌*◌}
 use native.Mathlib.Omega.{arith}
 use lib.ListN.{length}
 use Rattle.image.proofs.Laws.{stored_at}
-use borrow.Author.Rules.{rules}
 use Rattle.image.proofs.store_at.Goals as goal
 
 pub returns : goal.returns

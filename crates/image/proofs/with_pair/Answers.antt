@@ -1,7 +1,6 @@
 use mathlib.Core.Path.{ap, ◌∙◌}
 use Prim.Native.Nat.{◌%◌}
 use Rattle.image.specs.View.{put, put2}
-use borrow.Author.Rules.{rules}
 use Rattle.image.proofs.with_pair.Goals as goal
 
 pub returns : goal.returns

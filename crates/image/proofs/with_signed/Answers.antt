@@ -1,4 +1,3 @@
-use borrow.Author.Rules.{rules}
 use mir.Syntax.{w16, w32}
 use mir.ValLaws.{to_z-of_z}
 use mir.Facts.{sfits_widen}

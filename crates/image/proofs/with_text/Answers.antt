@@ -1,6 +1,5 @@
 use native.Mathlib.Omega.{arith}
 use Rattle.image.proofs.Laws.{text_set}
-use borrow.Author.Rules.{rules}
 use Rattle.image.proofs.with_text.Goals as goal
 
 pub returns : goal.returns

@@ -1,6 +1,5 @@
 use native.Mathlib.Omega.{arith}
 use Rattle.image.proofs.Laws.{word_set}
-use borrow.Author.Rules.{rules}
 use Rattle.image.proofs.with_word.Goals as goal
 
 pub returns : goal.returns

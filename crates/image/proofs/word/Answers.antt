@@ -1,6 +1,5 @@
 use native.Mathlib.Omega.{arith}
 use Rattle.image.specs.Image.{view_at}
-use borrow.Author.Rules.{rules}
 use Rattle.image.proofs.word.Goals as goal
 
 pub returns : goal.returns

@@ -4,7 +4,6 @@ use borrow.Author.Tests.{eq-eqb, ne_eqb, lt-ltb, le-ltb, le-leb, lt-leb}
 use Rattle.base.specs.Tests.{every}
 use Rattle.volume.specs.Answers.{image_good}
 use Rattle.volume.proofs.Steps.{every_no, and_true}
-use borrow.Author.Rules.{rules}
 use Rattle.inspect.proofs.image_good.Goals as goal
 
 pub returns-then-drive-gt3 : goal.returns-then-drive-gt3

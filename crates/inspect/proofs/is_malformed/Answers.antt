@@ -2,7 +2,6 @@ use mathlib.Core.Path.{sym, ◌∙◌}
 use Rattle.base.specs.Tests.{both}
 use Rattle.volume.specs.Files.{is_malformed}
 use Rattle.volume.proofs.Readings.{candidate_in}
-use borrow.Author.Rules.{rules}
 use Rattle.inspect.proofs.is_malformed.Goals as goal
 
 pub well_formed-requires : goal.well_formed-requires

@@ -4,7 +4,6 @@ use Rattle.base.specs.Tests.{every}
 use Rattle.drive.specs.Address.{lda_block}
 use Rattle.volume.specs.Answers.{part_good, end_of}
 use Rattle.volume.proofs.Steps.{every_no, and_true}
-use borrow.Author.Rules.{rules}
 use Rattle.inspect.proofs.part_good.Goals as goal
 
 pub returns-then-s-lt1 : goal.returns-then-s-lt1

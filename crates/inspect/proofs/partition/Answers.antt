@@ -3,7 +3,6 @@ use native.Mathlib.Omega.{arith}
 use borrow.Author.Tests.{not-true, not-false}
 use Rattle.volume.specs.Answers.{end_of, partition}
 use Rattle.volume.proofs.Readings.{image_blocks, part_start}
-use borrow.Author.Rules.{rules}
 use Rattle.inspect.proofs.partition.Goals as goal
 
 pub returns-then-not-image_good : goal.returns-then-not-image_good

@@ -1,5 +1,4 @@
 use mathlib.Core.Path.{ap, ◌∙◌}
-use borrow.Author.Rules.{rules}
 use Rattle.volume.specs.Keys.{key_of}
 use Rattle.inspect.proofs.Signs.{passed_word, passed_fits}
 use Rattle.links.proofs.key_in.Goals as goal

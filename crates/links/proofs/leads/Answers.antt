@@ -1,6 +1,5 @@
 use mathlib.Core.Path.{sym, ◌∙◌}
 use Rattle.base.specs.Tests.{both}
-use borrow.Author.Rules.{rules}
 use Rattle.links.proofs.leads.Goals as goal
 
 pub returns-then-is_pda : goal.returns-then-is_pda

@@ -5,7 +5,6 @@ use Rattle.image.specs.View.{pair}
 use Rattle.image.specs.Image.{view}
 use Rattle.volume.specs.Words.{previous_at}
 use Rattle.volume.proofs.Steps.{ne_of, eq_of}
-use borrow.Author.Rules.{rules}
 use Rattle.links.proofs.link_good.Goals as goal
 
 pub returns-then-pair-next : goal.returns-then-pair-next

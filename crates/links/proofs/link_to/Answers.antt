@@ -1,5 +1,4 @@
 use Rattle.links.proofs.Laws.{link_nil, link_is}
-use borrow.Author.Rules.{rules}
 use Rattle.links.proofs.link_to.Goals as goal
 
 pub returns-then-k-eq0 : goal.returns-then-k-eq0

@@ -1,5 +1,4 @@
 use native.Mathlib.Omega.{arith}
-use borrow.Author.Rules.{rules}
 use Rattle.inspect.proofs.Laws.{opened_len}
 use Rattle.links.proofs.Walk.{link_alone}
 use Rattle.links.proofs.linked.Goals as goal

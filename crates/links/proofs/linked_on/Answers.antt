@@ -1,9 +1,8 @@
 use mathlib.Core.Path.{◌≡◌, sym, ◌∙◌}
 use mathlib.Core.Bool.{true}
 use mathlib.Core.Logic.{◌≢◌}
-use Prim.Native.Nat.{ℕ, ◌+◌, ◌-◌, ◌≤◌}
+use Prim.Native.Nat.{ℕ, ◌≤◌}
 use native.Mathlib.Omega.{arith}
-use borrow.Author.Rules.{rules}
 use borrow.Author.Tests.{not-true, not-false}
 use Rattle.image.specs.Image.{view}
 use Rattle.volume.specs.Keys.{up}
@@ -11,7 +10,7 @@ use Rattle.volume.specs.Closed.{stays, next_key}
 use Rattle.volume.specs.Files.{spot, present}
 use Rattle.inspect.proofs.Laws.{opened_least, opened_read, read_few, read_holder}
 use Rattle.links.proofs.Laws.{len_few, first_is, next_is, key_high, key_few}
-use Rattle.links.proofs.Walk.{tails_none, tails_are, Held, held_on, read_on, Linking, Turn, link_starts, link_tail, link_end, link_fails, link_next, next_there, next_more}
+use Rattle.links.proofs.Walk.{tails_none, tails_are, held_on, read_on, Turn, link_starts, link_tail, link_end, link_fails, link_next, next_there, next_more}
 use Rattle.links.proofs.linked_on.Goals as goal
 use Rattle.links.proofs.linked_on.Goals.{Joined-k-lt-HOME, After-pair-x, then-k-lt-HOME+else-not-tail_good, else-k-lt-HOME, then-stays, else-stays}
 

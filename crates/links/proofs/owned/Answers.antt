@@ -3,7 +3,6 @@ use native.Mathlib.Omega.{arith}
 use borrow.Author.Tests.{eqb-true, eqb-false, not-true, not-false}
 use Rattle.inspect.proofs.Laws.{opened_len}
 use Rattle.links.proofs.Laws.{opened, is_file_of, owned_nil, owned_not_file, owned_absent, owned_here, has_is, tells_equal}
-use borrow.Author.Rules.{rules}
 use Rattle.links.proofs.owned.Goals as goal
 
 pub returns-then-x-eq0 : goal.returns-then-x-eq0

@@ -1,8 +1,5 @@
-use Prim.Native.Nat.{◌-◌}
 use native.Mathlib.Omega.{arith}
-use borrow.Author.Rules.{rules}
-use Rattle.image.specs.Image.{view}
-use Rattle.links.proofs.Walk.{Tailing, tail_starts, tail_fails, tail_next, tail_end}
+use Rattle.links.proofs.Walk.{tail_starts, tail_fails, tail_next, tail_end}
 use Rattle.links.proofs.tail_good.Goals as goal
 
 pub loop-i-init : goal.loop-i-init

@@ -1,7 +1,6 @@
 use mathlib.Core.Path.{sym, ◌∙◌}
-use Rattle.volume.specs.Answers.{partition, next_file}
+use Rattle.volume.specs.Answers.{next_file}
 use Rattle.volume.proofs.Readings.{lies}
-use borrow.Author.Rules.{rules}
 use Rattle.listing.proofs.next_file.Goals as goal
 
 pub file_above-x-requires : goal.file_above-x-requires

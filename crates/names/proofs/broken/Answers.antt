@@ -1,6 +1,5 @@
 use mathlib.Core.Path.{sym, ◌∙◌}
 use Rattle.volume.specs.Names.{broken}
-use borrow.Author.Rules.{rules}
 use Rattle.names.proofs.broken.Goals as goal
 
 pub returns-then-control : goal.returns-then-control

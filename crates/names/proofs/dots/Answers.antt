@@ -2,7 +2,6 @@ use mathlib.Core.Path.{sym, ◌∙◌}
 use borrow.Author.Tests.{not-true, not-false}
 use Rattle.base.specs.Tests.{both}
 use Rattle.names.specs.Laws.{dots_is}
-use borrow.Author.Rules.{rules}
 use Rattle.names.proofs.dots.Goals as goal
 
 pub returns-then-not-has : goal.returns-then-not-has

@@ -1,11 +1,8 @@
-use mathlib.Core.Path.{refl}
 use mathlib.Core.Bool.{not}
 use Prim.Native.Nat.{◌-◌}
-use native.Mathlib.Omega.{arith}
 use lib.Dec.{eqb}
 use Rattle.volume.specs.Names.{broken, first_broken}
-use Rattle.volume.proofs.Steps.{Searching, search_hit, search_next, searches}
-use Rattle.names.specs.Laws.{breaks, keeps, starts}
+use Rattle.volume.proofs.Steps.{Searching}
 use Rattle.names.proofs.first_broken.Given as goal
 
 abbrev pub invariant-loop-i : goal.invariant-loop-i

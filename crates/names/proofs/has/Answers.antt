@@ -1,6 +1,5 @@
 use native.Mathlib.Omega.{arith}
 use Rattle.names.specs.Laws.{has_not, has_is}
-use borrow.Author.Rules.{rules}
 use Rattle.names.proofs.has.Goals as goal
 
 pub returns-then-n-i : goal.returns-then-n-i

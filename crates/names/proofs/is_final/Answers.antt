@@ -1,7 +1,6 @@
 use mathlib.Core.Path.{◌∙◌}
 use native.Mathlib.Omega.{arith}
 use Rattle.names.specs.Laws.{final_not, final_is}
-use borrow.Author.Rules.{rules}
 use Rattle.names.proofs.is_final.Goals as goal
 
 pub returns-then-i-n : goal.returns-then-i-n

@@ -1,7 +1,6 @@
 use mathlib.Core.Path.{sym, ◌∙◌}
 use borrow.Author.Tests.{not-true, not-false}
 use Rattle.names.specs.Laws.{length_most, length_is, name_long, name_bad, name_good}
-use borrow.Author.Rules.{rules}
 use Rattle.names.proofs.is_good.Goals as goal
 
 pub returns-then-not-good_length : goal.returns-then-not-good_length

@@ -1,7 +1,6 @@
 use mathlib.Core.Path.{sym, ◌∙◌}
 use borrow.Author.Tests.{eq-eqb, ne_eqb}
 use Rattle.volume.specs.Calls.{lent_text}
-use borrow.Author.Rules.{rules}
 use Rattle.names.proofs.lent.Goals as goal
 
 pub returns-then-text-ne-DESCRIPTION : goal.returns-then-text-ne-DESCRIPTION

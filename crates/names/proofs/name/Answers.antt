@@ -3,7 +3,6 @@ use native.Mathlib.Omega.{arith}
 use borrow.Author.Tests.{eq-eqb, ne_eqb, not-true, not-false}
 use Rattle.volume.specs.Names.{name_answer}
 use Rattle.names.specs.Laws.{length_most, length_is, found_inside}
-use borrow.Author.Rules.{rules}
 use Rattle.names.proofs.name.Goals as goal
 
 pub returns-then-text-ne-DESCRIPTION : goal.returns-then-text-ne-DESCRIPTION

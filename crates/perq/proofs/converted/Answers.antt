@@ -1,7 +1,6 @@
 use mathlib.Core.Path.{subst}
 use native.Mathlib.Omega.{arith}
 use Rattle.drive.specs.Fits.{Fits}
-use borrow.Author.Rules.{rules}
 use Rattle.perq.proofs.converted.Goals as goal
 
 pub came_to-requires : goal.came_to-requires

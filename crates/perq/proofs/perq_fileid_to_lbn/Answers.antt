@@ -1,7 +1,6 @@
 use mathlib.Core.Path.{ap, ◌∙◌}
 use Rattle.drive.specs.Fits.{file_id_to_lbn_fits}
 use Rattle.perq.specs.Flat.{flat_converted}
-use borrow.Author.Rules.{rules}
 use Rattle.perq.proofs.perq_fileid_to_lbn.Goals as goal
 
 pub converted-requires : goal.converted-requires

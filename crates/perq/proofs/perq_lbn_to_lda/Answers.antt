@@ -1,7 +1,6 @@
 use mathlib.Core.Path.{ap, ◌∙◌}
 use Rattle.drive.specs.Fits.{lbn_to_lda_fits}
 use Rattle.perq.specs.Flat.{flat_converted}
-use borrow.Author.Rules.{rules}
 use Rattle.perq.proofs.perq_lbn_to_lda.Goals as goal
 
 pub converted-requires : goal.converted-requires

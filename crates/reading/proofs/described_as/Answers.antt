@@ -2,7 +2,6 @@ use mathlib.Core.Path.{sym, ◌∙◌}
 use borrow.Author.Tests.{eq-eqb, ne_eqb, not-true, not-false}
 use Rattle.volume.specs.Answers.{described_as}
 use Rattle.volume.proofs.Readings.{lies, candidate_in}
-use borrow.Author.Rules.{rules}
 use Rattle.reading.proofs.described_as.Goals as goal
 
 pub returns-then-n-ne104 : goal.returns-then-n-ne104

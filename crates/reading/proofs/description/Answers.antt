@@ -3,7 +3,6 @@ use Prim.Native.Nat.{◌+◌, ◌*◌}
 use native.Mathlib.Omega.{arith}
 use Rattle.image.proofs.Laws.{span}
 use Rattle.reading.proofs.Laws.{part_long, described_done}
-use borrow.Author.Rules.{rules}
 use Rattle.reading.proofs.description.Goals as goal
 
 pub overflow_mul-at : goal.overflow_mul-at

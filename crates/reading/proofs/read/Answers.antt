@@ -2,7 +2,6 @@ use mathlib.Core.Path.{sym, ◌∙◌}
 use native.Mathlib.Omega.{arith}
 use Rattle.image.proofs.Laws.{span}
 use Rattle.reading.proofs.Laws.{part_long, read_done, read_absent}
-use borrow.Author.Rules.{rules}
 use Rattle.reading.proofs.read.Goals as goal
 
 pub overflow_add-end : goal.overflow_add-end

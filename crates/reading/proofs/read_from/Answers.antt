@@ -2,7 +2,6 @@ use mathlib.Core.Path.{sym, ◌∙◌}
 use borrow.Author.Tests.{eq-eqb, ne_eqb}
 use Rattle.volume.specs.Answers.{read_from}
 use Rattle.volume.proofs.Readings.{lies}
-use borrow.Author.Rules.{rules}
 use Rattle.reading.proofs.read_from.Goals as goal
 
 pub show_in-requires : goal.show_in-requires

@@ -1,6 +1,5 @@
 use Rattle.volume.specs.Plans.{stores, new_first}
 use Rattle.records.specs.Records.{created}
-use borrow.Author.Rules.{rules}
 use Rattle.records.proofs.create_store.Goals as goal
 
 pub returns : goal.returns

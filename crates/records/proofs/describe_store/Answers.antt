@@ -1,6 +1,5 @@
 use Rattle.volume.specs.Plans.{stores}
 use Rattle.records.specs.Records.{described}
-use borrow.Author.Rules.{rules}
 use Rattle.records.proofs.describe_store.Goals as goal
 
 pub returns : goal.returns

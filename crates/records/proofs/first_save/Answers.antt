@@ -1,6 +1,5 @@
 use Rattle.volume.specs.Plans.{new_first}
 use Rattle.records.proofs.Laws.{stands}
-use borrow.Author.Rules.{rules}
 use Rattle.records.proofs.first_save.Goals as goal
 
 pub returns : goal.returns

@@ -1,6 +1,5 @@
 use Rattle.volume.specs.Plans.{fresh_fib}
 use Rattle.records.proofs.Laws.{stands}
-use borrow.Author.Rules.{rules}
 use Rattle.records.proofs.fresh_save.Goals as goal
 
 pub returns : goal.returns

@@ -1,5 +1,4 @@
 use Rattle.drive.specs.Fits.{lda_small}
-use borrow.Author.Rules.{rules}
 use Rattle.records.proofs.lda_of.Goals as goal
 
 pub returns : goal.returns

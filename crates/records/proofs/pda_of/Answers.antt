@@ -1,5 +1,4 @@
 use Rattle.drive.specs.Fits.{pda_small}
-use borrow.Author.Rules.{rules}
 use Rattle.records.proofs.pda_of.Goals as goal
 
 pub returns : goal.returns

@@ -1,6 +1,5 @@
 use Rattle.volume.specs.Plans.{pib_less}
 use Rattle.records.proofs.Laws.{stands}
-use borrow.Author.Rules.{rules}
 use Rattle.records.proofs.pib_less_save.Goals as goal
 
 pub returns : goal.returns

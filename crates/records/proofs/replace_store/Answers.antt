@@ -1,6 +1,5 @@
 use Rattle.volume.specs.Plans.{stores}
 use Rattle.records.specs.Records.{replaced}
-use borrow.Author.Rules.{rules}
 use Rattle.records.proofs.replace_store.Goals as goal
 
 pub returns : goal.returns

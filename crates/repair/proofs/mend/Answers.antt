@@ -1,6 +1,5 @@
-use Prim.Native.Nat.{◌+◌, ◌-◌, ◌≤◌}
 use native.Mathlib.Omega.{arith}
-use Rattle.repair.specs.Mending.{Mending, mend_starts, mend_turn, mend_next, mend_past}
+use Rattle.repair.specs.Mending.{mend_starts, mend_turn, mend_next, mend_past}
 use Rattle.repair.proofs.mend.Goals as goal
 
 pub overflow_add-end : goal.overflow_add-end

@@ -1,6 +1,5 @@
 use Prim.Native.Nat.{◌+◌, ◌-◌, ◌≤◌}
-use native.Mathlib.Omega.{arith}
-use Rattle.repair.specs.Mending.{Mending, mend_starts, mend_turn, mend_next, mend_past}
+use Rattle.repair.specs.Mending.{Mending}
 use Rattle.repair.proofs.mend.Given as goal
 
 abbrev pub invariant-loop-b : goal.invariant-loop-b

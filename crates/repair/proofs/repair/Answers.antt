@@ -1,5 +1,4 @@
 use mathlib.Core.Path.{sym, ◌∙◌}
-use borrow.Author.Rules.{rules}
 use Rattle.repair.specs.Answer.{answered_not, refused_part, refused_malformed, planned_in}
 use Rattle.volume.proofs.Readings.{lies}
 use Rattle.repair.proofs.repair.Goals as goal

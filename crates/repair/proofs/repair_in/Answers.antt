@@ -1,6 +1,5 @@
 use mathlib.Core.Path.{◌∙◌}
 use native.Mathlib.Omega.{arith}
-use borrow.Author.Rules.{rules}
 use Rattle.blocks.specs.Standing.{last_end, many_end}
 use Rattle.repair.specs.Mending.{mend_pib, mend_end}
 use Rattle.repair.specs.Answer.{from_start, first_few, none_free, some_free, answered_not, answered_done}

@@ -1,5 +1,4 @@
 use native.Mathlib.Omega.{arith}
-use borrow.Author.Rules.{rules}
 use Rattle.repair.specs.Turns.{turn_in, turn_above, turn_below, turn_count, turn_mine, turned_free, turned_mine}
 use Rattle.repair.proofs.turn.Goals as goal
 

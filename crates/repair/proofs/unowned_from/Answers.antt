@@ -1,13 +1,7 @@
 use mathlib.Core.Path.{sym, ap, ◌∙◌}
 use mathlib.Core.Bool.{not}
-use Prim.Native.Nat.{suc, ◌+◌, ◌-◌}
 use native.Mathlib.Omega.{arith}
-use borrow.Author.Rules.{rules}
-use Rattle.image.specs.Image.{view}
-use Rattle.volume.specs.Files.{owned}
-use Rattle.base.specs.Tests.{those, head_of}
-use Rattle.blocks.specs.Standing.{Seeking, seek_starts, seek_hit, seek_next, seek_end}
-use Rattle.repair.specs.Mending.{is_free}
+use Rattle.blocks.specs.Standing.{seek_starts, seek_hit, seek_next, seek_end}
 use Rattle.repair.proofs.unowned_from.Goals as goal
 
 pub loop-b-init : goal.loop-b-init

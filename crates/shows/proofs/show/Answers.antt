@@ -1,6 +1,5 @@
 use mathlib.Core.Path.{sym, ◌∙◌}
 use Rattle.inspect.proofs.Laws.{shown_in}
-use borrow.Author.Rules.{rules}
 use Rattle.shows.proofs.show.Goals as goal
 
 pub part_at-requires : goal.part_at-requires

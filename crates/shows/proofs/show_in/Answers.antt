@@ -4,7 +4,6 @@ use Rattle.volume.specs.Keys.{reach}
 use Rattle.volume.specs.Answers.{show_in}
 use Rattle.volume.proofs.Readings.{candidate_in}
 use Rattle.inspect.proofs.Laws.{wf_opened, opened_len}
-use borrow.Author.Rules.{rules}
 use Rattle.shows.proofs.show_in.Goals as goal
 
 pub returns-then-not-candidate : goal.returns-then-not-candidate

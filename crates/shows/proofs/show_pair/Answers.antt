@@ -1,7 +1,6 @@
 use mathlib.Core.Path.{sym, ◌∙◌}
 use Rattle.volume.specs.Answers.{shown_pair}
 use Rattle.inspect.proofs.Laws.{shown_in}
-use borrow.Author.Rules.{rules}
 use Rattle.shows.proofs.show_pair.Goals as goal
 
 pub part_at-requires : goal.part_at-requires

@@ -1,6 +1,5 @@
 use mathlib.Core.Path.{sym, ◌∙◌}
 use Rattle.volume.specs.Answers.{shown_pair}
-use borrow.Author.Rules.{rules}
 use Rattle.shows.proofs.show_pair_answer.Goals as goal
 
 pub returns-in-Done : goal.returns-in-Done

@@ -1,5 +1,4 @@
 use mathlib.Core.Path.{sym, ◌∙◌}
-use borrow.Author.Rules.{rules}
 use Rattle.volume.proofs.Readings.{lies}
 use Rattle.directory.specs.Directory as defs
 use Rattle.tree.specs.Items.{lay_none}

@@ -1,4 +1,3 @@
-use borrow.Author.Rules.{rules}
 use Rattle.tree.specs.Walks.{tree_going, tree_stopped, tree_deep}
 use Rattle.tree.proofs.tree_from.Goals as goal
 

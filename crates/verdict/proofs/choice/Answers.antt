@@ -1,4 +1,3 @@
-use borrow.Author.Rules.{rules}
 use Rattle.verdict.proofs.choice.Goals as goal
 
 -- `verdict::choice` meets its contract, case by case of what check answers. Assumes nothing.

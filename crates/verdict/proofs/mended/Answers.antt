@@ -1,4 +1,3 @@
-use borrow.Author.Rules.{rules}
 use Rattle.verdict.proofs.mended.Goals as goal
 
 -- `verdict::mended` meets its contract, case by case. Assumes nothing.

@@ -1,7 +1,6 @@
 use Rattle.verdict.specs.Choice.{choice}
 use Rattle.verdict.proofs.Laws.{settled_is}
 use mathlib.Core.Path.{sym, ◌∙◌, ap}
-use borrow.Author.Rules.{rules}
 use Rattle.verdict.proofs.partition.Goals as goal
 
 -- `verdict::partition` meets its contract, case by case of what is to be done. Assumes nothing.

@@ -1,6 +1,5 @@
 use mathlib.Core.Path.{sym, ◌∙◌}
 use borrow.Author.Tests.{eq-eqb, ne_eqb}
-use borrow.Author.Rules.{rules}
 use Rattle.verdict.proofs.refusal.Goals as goal
 
 -- `verdict::refusal` meets its contract: the two tests are those of the definition. Assumes nothing.

@@ -2,7 +2,6 @@ use mathlib.Core.Path.{◌∙◌, ap}
 use Rattle.verdict.specs.Choice.{choice, mended}
 use Rattle.verdict.proofs.Laws.{repaired_image, repaired_refused, repaired_absent, repaired_done}
 use native.Mathlib.Omega.{arith}
-use borrow.Author.Rules.{rules}
 use Rattle.verdict.proofs.repaired.Goals as goal
 
 -- `verdict::repaired` meets its contract: what repair answers, what it leaves, and what check says of that. Assumes nothing.

@@ -4,7 +4,6 @@ use Rattle.base.specs.Tests.{every}
 use Rattle.drive.specs.Address.{lda_block}
 use Rattle.volume.proofs.Steps.{every_no, and_true}
 use Rattle.verify.specs.Walks.{named}
-use borrow.Author.Rules.{rules}
 use Rattle.verify.proofs.chain_named.Goals as goal
 
 pub returns-then-not-is_lda : goal.returns-then-not-is_lda

@@ -1,5 +1,4 @@
 use mathlib.Core.Path.{sym, ◌∙◌}
-use borrow.Author.Rules.{rules}
 use Rattle.volume.specs.Answers.{checked}
 use Rattle.volume.proofs.Readings.{lies}
 use Rattle.verify.proofs.check.Goals as goal

@@ -1,5 +1,4 @@
 use mathlib.Core.Path.{sym, ◌∙◌}
-use borrow.Author.Rules.{rules}
 use Rattle.verify.proofs.Surveys.{linked_sums, faulty_test, good_unmarred, free_rest, check_sound, check_unsound}
 use Rattle.verify.proofs.check_in.Goals as goal
 

@@ -1,4 +1,3 @@
-use borrow.Author.Rules.{rules}
 use Rattle.verify.proofs.Surveys.{check_faulty_at, check_faulty}
 use Rattle.verify.proofs.faulty.Goals as goal
 

@@ -1,5 +1,4 @@
 use mathlib.Core.Path.{sym, ◌∙◌}
-use borrow.Author.Rules.{rules}
 use Rattle.verify.proofs.Chains.{free_wrong, free_counts, free_few, chain_rest, last_is_in}
 use Rattle.verify.proofs.Surveys.{free_rest}
 use Rattle.verify.proofs.free_good.Goals as goal

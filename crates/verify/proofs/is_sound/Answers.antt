@@ -1,4 +1,3 @@
-use borrow.Author.Rules.{rules}
 use Rattle.verify.proofs.Surveys.{linked_sums, faulty_test, good_unmarred, sound_faulty, sound_linked}
 use Rattle.verify.proofs.is_sound.Goals as goal
 

@@ -1,5 +1,4 @@
 use native.Mathlib.Omega.{arith}
-use borrow.Author.Rules.{rules}
 use borrow.Author.Tests.{eq-eqb, ne_eqb}
 use Rattle.volume.proofs.Readings.{of_inside}
 use Rattle.verify.specs.Walks.{onward}

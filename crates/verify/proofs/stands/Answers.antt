@@ -3,7 +3,6 @@ use borrow.Author.Tests.{not-true, not-false}
 use Rattle.volume.proofs.Steps.{both_no, both_no_2}
 use Rattle.inspect.proofs.Laws.{wf_opened, opened_len}
 use Rattle.verify.proofs.Surveys.{stands_faulty, stands_file}
-use borrow.Author.Rules.{rules}
 use Rattle.verify.proofs.stands.Goals as goal
 
 pub returns-then-not-well_formed : goal.returns-then-not-well_formed

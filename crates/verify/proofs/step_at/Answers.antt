@@ -1,10 +1,7 @@
 use mathlib.Core.Path.{refl, sym, ◌∙◌}
 use native.Mathlib.Omega.{arith}
-use Rattle.image.specs.View.{pair}
-use Rattle.volume.specs.Files.{owned}
 use Rattle.volume.proofs.Steps.{ne_of, eq_of}
-use Rattle.verify.specs.Walks.{onward, step_at}
-use borrow.Author.Rules.{rules}
+use Rattle.verify.specs.Walks.{step_at}
 use Rattle.verify.proofs.step_at.Goals as goal
 
 pub returns-then-owned : goal.returns-then-owned

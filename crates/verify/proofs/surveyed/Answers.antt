@@ -1,12 +1,10 @@
 use mathlib.Core.Path.{◌≡◌, sym, ◌∙◌}
-use Prim.Native.Nat.{◌-◌, ◌≤◌}
+use Prim.Native.Nat.{◌-◌}
 use native.Mathlib.Omega.{arith}
 use native.Mathlib.Numerals.{add-one}
-use borrow.Author.Rules.{rules}
 use borrow.Author.Tests.{not-true, not-false}
-use Rattle.image.specs.Image.{view}
 use Rattle.volume.proofs.Readings.{candidate_in}
-use Rattle.verify.proofs.Surveys.{Passed, pass_starts, pass_other, pass_file, pass_faulty, pass_ends, file_short}
+use Rattle.verify.proofs.Surveys.{pass_starts, pass_other, pass_file, pass_faulty, pass_ends, file_short}
 use Rattle.verify.proofs.surveyed.Goals as goal
 
 pub overflow_sub-m : goal.overflow_sub-m

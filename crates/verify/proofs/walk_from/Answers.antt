@@ -1,9 +1,5 @@
-use borrow.Author.Rules.{rules}
-use Prim.Native.Nat.{◌-◌}
 use native.Mathlib.Omega.{arith}
-use Rattle.image.specs.Image.{view}
-use Rattle.verify.specs.Walks.{walk}
-use Rattle.verify.proofs.Free.{Walking, walk_starts, walk_out, walk_bad, walk_end, walk_on}
+use Rattle.verify.proofs.Free.{walk_starts, walk_out, walk_bad, walk_end, walk_on}
 use Rattle.verify.proofs.walk_from.Goals as goal
 
 pub overflow_sub-most : goal.overflow_sub-most

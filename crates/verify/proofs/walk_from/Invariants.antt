@@ -1,9 +1,7 @@
-use borrow.Author.Rules.{rules}
 use Prim.Native.Nat.{◌-◌}
-use native.Mathlib.Omega.{arith}
 use Rattle.image.specs.Image.{view}
 use Rattle.verify.specs.Walks.{walk}
-use Rattle.verify.proofs.Free.{Walking, walk_starts, walk_out, walk_bad, walk_end, walk_on}
+use Rattle.verify.proofs.Free.{Walking}
 use Rattle.verify.proofs.walk_from.Given as goal
 
 abbrev pub invariant-loop-n : goal.invariant-loop-n

@@ -2,7 +2,6 @@ use native.Mathlib.Omega.{arith}
 use Rattle.base.specs.declared.Refusal.TheVariants.{Full}
 use Rattle.change.proofs.Laws.{answered_not, answered_done, file_opened}
 use Rattle.write.proofs.Laws.{append_few, append_is, block_second, leaves, appends}
-use borrow.Author.Rules.{rules}
 use Rattle.write.proofs.append_open.Goals as goal
 
 pub returns-then-room-m : goal.returns-then-room-m

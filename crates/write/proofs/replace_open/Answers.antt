@@ -1,6 +1,5 @@
 use Rattle.change.proofs.Laws.{answered_done, file_opened}
 use Rattle.write.proofs.Laws.{write_replace}
-use borrow.Author.Rules.{rules}
 use Rattle.write.proofs.replace_open.Goals as goal
 
 pub name-b-requires : goal.name-b-requires

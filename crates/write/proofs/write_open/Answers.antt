@@ -5,7 +5,6 @@ use Rattle.base.specs.declared.Refusal.TheVariants.{NoCandidate, BadBlock}
 use Rattle.inspect.proofs.Laws.{opened_len}
 use Rattle.change.proofs.Laws.{answered_not, answered_as, file_opened}
 use Rattle.write.proofs.Laws.{write_nowhere, write_above, write_far, write_append}
-use borrow.Author.Rules.{rules}
 use Rattle.write.proofs.write_open.Goals as goal
 
 pub returns-then-not-candidate : goal.returns-then-not-candidate

@@ -1,6 +1,5 @@
 use mathlib.Core.Path.{sym, ◌∙◌}
 use Rattle.append.proofs.Laws.{at_new, still_there, at_old}
-use borrow.Author.Rules.{rules}
 use Rattle.append.proofs.place.block_of.Goals as goal
 
 pub returns-then-is_new : goal.returns-then-is_new

@@ -1,5 +1,4 @@
 use Rattle.append.proofs.Laws.{fresh_data, fresh_pointer, fresh_double}
-use borrow.Author.Rules.{rules}
 use Rattle.append.proofs.place.fresh.Goals as goal
 
 pub returns-then-k-data : goal.returns-then-k-data

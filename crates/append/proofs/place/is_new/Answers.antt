@@ -1,5 +1,4 @@
 use Rattle.append.proofs.Laws.{new_is}
-use borrow.Author.Rules.{rules}
 use Rattle.append.proofs.place.is_new.Goals as goal
 
 pub returns : goal.returns

@@ -3,7 +3,6 @@ use mathlib.Core.List.{[], ◌∷◌}
 use native.Mathlib.Omega.{arith}
 use Rattle.records.proofs.Laws.{stands}
 use Rattle.append.proofs.Laws.{key_small, next_there, prev_there, store_is}
-use borrow.Author.Rules.{rules}
 use Rattle.append.proofs.place.key_save.Goals as goal
 
 pub prev_key-below-requires : goal.prev_key-below-requires

@@ -1,5 +1,4 @@
 use Rattle.append.proofs.Laws.{link_none, link_some}
-use borrow.Author.Rules.{rules}
 use Rattle.append.proofs.place.link_to.Goals as goal
 
 pub returns-then-k-lt1 : goal.returns-then-k-lt1

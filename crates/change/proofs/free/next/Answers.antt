@@ -1,6 +1,5 @@
 use mathlib.Core.Path.{ap, ◌∙◌}
 use Rattle.drive.specs.Address.{pda_block}
-use borrow.Author.Rules.{rules}
 use Rattle.change.proofs.free.next.Goals as goal
 
 pub returns : goal.returns

@@ -1,7 +1,6 @@
 use mathlib.Core.Path.{ap, ◌∙◌}
 use Rattle.drive.specs.Address.{lda_block}
 use Rattle.change.proofs.Laws.{block_tail}
-use borrow.Author.Rules.{rules}
 use Rattle.change.proofs.free.tail.Goals as goal
 
 pub returns : goal.returns

@@ -1,7 +1,5 @@
-use Rattle.directory.specs.Entries.{Weighed, weighs, weigh_next}
+use Rattle.directory.specs.Entries.{weighs, weigh_next}
 use native.Mathlib.Omega.{arith}
-use Prim.Native.Nat.{◌-◌, ◌≤◌}
-use lib.ListN.{length}
 use Rattle.directory.proofs.entry.hash.Goals as goal
 
 pub loop-i-preserved : goal.loop-i-preserved

@@ -1,5 +1,4 @@
-use Rattle.directory.specs.Entries.{Weighed, weighs, weigh_next}
-use native.Mathlib.Omega.{arith}
+use Rattle.directory.specs.Entries.{Weighed}
 use Prim.Native.Nat.{◌-◌, ◌≤◌}
 use lib.ListN.{length}
 use Rattle.directory.proofs.entry.hash.Given as goal

@@ -1,5 +1,4 @@
 use Rattle.directory.specs.Entries.{directory_as}
-use borrow.Author.Rules.{rules}
 use Rattle.directory.proofs.entry.is_directory.Goals as goal
 
 pub returns : goal.returns

@@ -1,7 +1,6 @@
 use mathlib.Core.Path.{sym, ◌∙◌}
 use Rattle.directory.specs.Entries.{file_at_is, mets}
 use Rattle.directory.proofs.Laws.{file_inside}
-use borrow.Author.Rules.{rules}
 use Rattle.directory.proofs.entry.met.Goals as goal
 
 pub is_directory-requires : goal.is_directory-requires

@@ -1,6 +1,5 @@
 use mathlib.Core.Path.{ap, ◌∙◌}
 use Rattle.directory.specs.Directory as defs
-use borrow.Author.Rules.{rules}
 use Rattle.directory.proofs.entry.root.Goals as goal
 
 pub returns : goal.returns

@@ -1,7 +1,4 @@
-use Rattle.directory.specs.Entries.{sames, same_at, same_next}
-use Prim.Native.Nat.{◌-◌}
-use Rattle.volume.proofs.Steps.{Passed}
-use Rattle.directory.specs.Directory.{same_name}
+use Rattle.directory.specs.Entries.{sames, same_next}
 use Rattle.directory.proofs.entry.same.Goals as goal
 
 pub loop-i-preserved : goal.loop-i-preserved

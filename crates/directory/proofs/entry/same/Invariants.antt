@@ -1,4 +1,4 @@
-use Rattle.directory.specs.Entries.{sames, same_at, same_next}
+use Rattle.directory.specs.Entries.{same_at}
 use Prim.Native.Nat.{◌-◌}
 use Rattle.volume.proofs.Steps.{Passed}
 use Rattle.directory.specs.Directory.{same_name}

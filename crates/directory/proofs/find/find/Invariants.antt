@@ -1,9 +1,6 @@
 use Prim.Native.Nat.{◌+◌, ◌-◌, ◌*◌, ◌≤◌}
-use native.Mathlib.Omega.{arith}
-use Rattle.volume.proofs.Steps.{Searching, search_end}
+use Rattle.volume.proofs.Steps.{Searching}
 use Rattle.directory.specs.Directory as defs
-use Rattle.directory.specs.Paths.{find_starts, find_to, find_hit, find_next}
-use Rattle.inspect.proofs.Laws.{opened_len}
 use Rattle.directory.proofs.find.find.Given as goal
 
 abbrev pub invariant-loop-i : goal.invariant-loop-i

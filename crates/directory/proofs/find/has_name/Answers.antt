@@ -3,7 +3,6 @@ use native.Mathlib.Omega.{arith}
 use borrow.Author.Tests.{not-true, not-false}
 use Rattle.directory.specs.Entries.{taken_fits}
 use Rattle.directory.specs.Paths.{match_not, match_by}
-use borrow.Author.Rules.{rules}
 use Rattle.directory.proofs.find.has_name.Goals as goal
 
 pub returns-then-not-taken : goal.returns-then-not-taken

@@ -2,7 +2,6 @@ use mathlib.Core.Path.{sym, ◌∙◌}
 use native.Mathlib.Omega.{arith}
 use Rattle.directory.specs.Paths.{found_below, enter_absent, enter_file, enter_dangling}
 use Rattle.directory.proofs.Laws.{file_opened}
-use borrow.Author.Rules.{rules}
 use Rattle.directory.proofs.look.enter.Goals as goal
 
 pub find-x-requires : goal.find-x-requires

@@ -1,5 +1,4 @@
 use Rattle.directory.specs.Paths.{look_empty, look_some}
-use borrow.Author.Rules.{rules}
 use Rattle.directory.proofs.look.look_from.Goals as goal
 
 pub returns-then-path-lt1 : goal.returns-then-path-lt1

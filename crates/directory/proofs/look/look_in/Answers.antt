@@ -2,7 +2,6 @@ use mathlib.Core.Path.{sym, ap, ◌∙◌}
 use borrow.Author.Tests.{not-true, not-false}
 use Rattle.directory.specs.Directory as defs
 use Rattle.directory.specs.Entries.{file_at_is}
-use borrow.Author.Rules.{rules}
 use Rattle.directory.proofs.look.look_in.Goals as goal
 
 pub returns-then-not-is_rule : goal.returns-then-not-is_rule

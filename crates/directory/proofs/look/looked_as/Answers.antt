@@ -1,6 +1,5 @@
 use mathlib.Core.Path.{sym, ap}
 use Rattle.directory.specs.Directory as defs
-use borrow.Author.Rules.{rules}
 use Rattle.directory.proofs.look.looked_as.Goals as goal
 
 pub returns-in-File : goal.returns-in-File

@@ -1,10 +1,7 @@
-use mathlib.Core.Path.{◌≡◌, refl, sym, ◌∙◌}
 use Prim.Native.Nat.{◌-◌, ◌≤◌}
-use native.Mathlib.Omega.{arith}
 use lib.ListN.{length}
 use Rattle.directory.specs.Directory as defs
-use Rattle.directory.specs.Paths.{Ending, end_here, end_next, end_all}
-use borrow.Author.Rules.{rules}
+use Rattle.directory.specs.Paths.{Ending}
 use Rattle.directory.proofs.look.part_end.Given as goal
 
 abbrev pub invariant-loop-q : goal.invariant-loop-q

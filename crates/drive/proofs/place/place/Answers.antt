@@ -1,7 +1,6 @@
 use mathlib.Core.Path.{◌≡◌, ◌∙◌}
 use Prim.Native.Nat.{ℕ, zero, suc, ◌+◌, ◌*◌, ◌/◌, ◌%◌, ◌<◌}
 use native.Mathlib.Omega.{arith}
-use borrow.Author.Rules.{rules}
 use Rattle.drive.specs.Rows.{on_drive, pda_code}
 use Rattle.drive.specs.Laws.{row_of, soft_row}
 use Rattle.drive.specs.Ranges.{Parts, place_of, place_by, place_none}

@@ -1,6 +1,4 @@
-use Prim.Native.Nat.{◌-◌}
-use Rattle.image.specs.Image.{view}
-use Rattle.inspect.proofs.Ways.{Nils, nils}
+use Rattle.inspect.proofs.Ways.{nils}
 use Rattle.inspect.proofs.form.nil_from.Goals as goal
 
 pub loop-i-init : goal.loop-i-init

@@ -1,6 +1,6 @@
 use Prim.Native.Nat.{◌-◌}
 use Rattle.image.specs.Image.{view}
-use Rattle.inspect.proofs.Ways.{Nils, nils}
+use Rattle.inspect.proofs.Ways.{Nils}
 use Rattle.inspect.proofs.form.nil_from.Given as goal
 
 abbrev pub invariant-loop-i : goal.invariant-loop-i

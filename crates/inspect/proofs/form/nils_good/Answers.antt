@@ -3,7 +3,6 @@ use borrow.Author.Tests.{not-true, not-false}
 use Rattle.volume.proofs.Steps.{every_no}
 use Rattle.inspect.specs.Form.{nils_good}
 use Rattle.inspect.proofs.Ways.{every_last}
-use borrow.Author.Rules.{rules}
 use Rattle.inspect.proofs.form.nils_good.Goals as goal
 
 pub returns-then-not-nil_from : goal.returns-then-not-nil_from

@@ -7,7 +7,6 @@ use Rattle.volume.proofs.KeyLaws.{number_small}
 use Rattle.inspect.proofs.Signs.{passed_word, passed_fits}
 use Rattle.inspect.proofs.Laws.{read_last, read_low}
 use Rattle.inspect.proofs.Ways.{every_last}
-use borrow.Author.Rules.{rules}
 use Rattle.inspect.proofs.form.numbers_good.Goals as goal
 
 pub returns-then-word-size_of : goal.returns-then-word-size_of

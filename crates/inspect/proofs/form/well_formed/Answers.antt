@@ -2,7 +2,6 @@ use mathlib.Core.Path.{sym, ◌∙◌}
 use borrow.Author.Tests.{not-true, not-false}
 use Rattle.inspect.proofs.Signs.{passed}
 use Rattle.inspect.proofs.Ways.{wf_long, wf_index, wf_nil, wf_rest, wf_readable}
-use borrow.Author.Rules.{rules}
 use Rattle.inspect.proofs.form.well_formed.Goals as goal
 
 pub returns-then-not-last_good : goal.returns-then-not-last_good

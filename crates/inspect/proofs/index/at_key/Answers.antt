@@ -1,7 +1,6 @@
 use mathlib.Core.Path.{◌∙◌}
 use native.Mathlib.Omega.{arith}
 use Rattle.inspect.proofs.Laws.{read_bits, read_is, read_home, read_holder, read_near, held_near}
-use borrow.Author.Rules.{rules}
 use Rattle.inspect.proofs.index.at_key.Goals as goal
 
 pub returns-then-k-eq-HOME : goal.returns-then-k-eq-HOME

@@ -1,8 +1,4 @@
-use Prim.Native.Nat.{◌-◌}
-use Rattle.base.specs.Tests.{all}
-use Rattle.image.specs.Image.{view}
-use Rattle.volume.proofs.Steps.{passes, Passed}
-use Rattle.inspect.specs.Form.{data_test}
+use Rattle.volume.proofs.Steps.{passes}
 use Rattle.inspect.proofs.index.direct_good.Goals as goal
 
 pub loop-r-init : goal.loop-r-init

@@ -2,7 +2,6 @@ use mathlib.Core.Path.{sym, ◌∙◌}
 use Rattle.volume.proofs.KeyLaws.{number_small}
 use Rattle.inspect.proofs.Signs.{passed_word, passed_fits}
 use Rattle.inspect.proofs.Laws.{named_direct}
-use borrow.Author.Rules.{rules}
 use Rattle.inspect.proofs.index.direct_named.Goals as goal
 
 pub names-requires : goal.names-requires

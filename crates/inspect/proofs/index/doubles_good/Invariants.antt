@@ -1,10 +1,8 @@
 use Prim.Native.Nat.{◌-◌}
-use native.Mathlib.Omega.{arith}
 use Rattle.base.specs.Tests.{all}
 use Rattle.image.specs.Image.{view}
-use Rattle.volume.proofs.Steps.{passes, Passed}
+use Rattle.volume.proofs.Steps.{Passed}
 use Rattle.inspect.specs.Form.{double_test}
-use Rattle.inspect.proofs.Ways.{double_held}
 use Rattle.inspect.proofs.index.doubles_good.Given as goal
 
 abbrev pub invariant-loop-i : goal.invariant-loop-i

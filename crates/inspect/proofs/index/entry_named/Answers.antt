@@ -1,6 +1,5 @@
 use Rattle.volume.proofs.KeyLaws.{number_small}
 use Rattle.inspect.proofs.Signs.{passed_word, passed_fits}
-use borrow.Author.Rules.{rules}
 use Rattle.inspect.proofs.index.entry_named.Goals as goal
 
 pub names-requires : goal.names-requires

@@ -1,7 +1,6 @@
 use mathlib.Core.Path.{◌∙◌}
 use native.Mathlib.Omega.{arith}
 use Rattle.inspect.proofs.Laws.{read_few, read_bits, read_is}
-use borrow.Author.Rules.{rules}
 use Rattle.inspect.proofs.index.far_key.Goals as goal
 
 pub read-requires : goal.read-requires

@@ -3,7 +3,6 @@ use mathlib.Core.Path.{sym, ap, ◌∙◌}
 use Rattle.volume.specs.Files.{spot}
 use Rattle.volume.proofs.KeyLaws.{up_far}
 use Rattle.inspect.proofs.Laws.{held_near, spot_held}
-use borrow.Author.Rules.{rules}
 use Rattle.inspect.proofs.index.holder.Goals as goal
 
 pub returns-then-k-gt256 : goal.returns-then-k-gt256

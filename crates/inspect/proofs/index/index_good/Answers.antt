@@ -1,6 +1,5 @@
 use native.Mathlib.Omega.{arith}
 use Rattle.inspect.proofs.Ways.{index_none, index_is, index_not, doubles_is}
-use borrow.Author.Rules.{rules}
 use Rattle.inspect.proofs.index.index_good.Goals as goal
 
 pub returns-then-n-lt1 : goal.returns-then-n-lt1

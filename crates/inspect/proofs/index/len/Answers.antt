@@ -3,7 +3,6 @@ use borrow.Author.Tests.{le-leb}
 use Rattle.volume.specs.Files.{len}
 use Rattle.inspect.specs.Numbers.{last_good_is, blocks_to_is}
 use Rattle.inspect.proofs.Signs.{passed}
-use borrow.Author.Rules.{rules}
 use Rattle.inspect.proofs.index.len.Goals as goal
 
 pub blocks_to-requires : goal.blocks_to-requires

@@ -1,6 +1,5 @@
 use native.Mathlib.Omega.{arith}
 use Rattle.inspect.proofs.Laws.{opened_few, opened_data}
-use borrow.Author.Rules.{rules}
 use Rattle.inspect.proofs.index.name.Goals as goal
 
 pub overflow_add-r : goal.overflow_add-r

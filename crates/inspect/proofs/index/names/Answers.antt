@@ -6,7 +6,6 @@ use Rattle.volume.specs.Files.{inside}
 use Rattle.volume.proofs.Steps.{every_no, both_no, both_no_2, ne_of, eq_of, and_true}
 use Rattle.inspect.specs.Form.{names}
 use Rattle.inspect.proofs.Signs.{self}
-use borrow.Author.Rules.{rules}
 use Rattle.inspect.proofs.index.names.Goals as goal
 
 pub returns-then-b-p : goal.returns-then-b-p

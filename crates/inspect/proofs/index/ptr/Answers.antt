@@ -1,7 +1,6 @@
 use mathlib.Core.Path.{sym, ◌∙◌}
 use native.Mathlib.Omega.{arith}
 use Rattle.inspect.proofs.Laws.{spot_held}
-use borrow.Author.Rules.{rules}
 use Rattle.inspect.proofs.index.ptr.Goals as goal
 
 pub returns : goal.returns

@@ -3,7 +3,6 @@ use native.Mathlib.Omega.{arith}
 use Rattle.volume.proofs.KeyLaws.{number_small}
 use Rattle.inspect.proofs.Signs.{passed_word, passed_fits}
 use Rattle.inspect.proofs.Laws.{named_held}
-use borrow.Author.Rules.{rules}
 use Rattle.inspect.proofs.index.ptr_named.Goals as goal
 
 pub names-requires : goal.names-requires

@@ -1,4 +1,3 @@
-use borrow.Author.Rules.{rules}
 use Rattle.inspect.proofs.index.read.Goals as goal
 
 pub returns : goal.returns

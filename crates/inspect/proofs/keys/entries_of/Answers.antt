@@ -1,6 +1,5 @@
 use native.Mathlib.Omega.{arith}
 use borrow.Author.Tests.{lt-ltb, le-ltb}
-use borrow.Author.Rules.{rules}
 use Rattle.inspect.proofs.keys.entries_of.Goals as goal
 
 pub returns-then-m-lt128 : goal.returns-then-m-lt128

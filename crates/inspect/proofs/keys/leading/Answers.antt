@@ -1,6 +1,5 @@
 use native.Mathlib.Omega.{arith}
 use borrow.Author.Tests.{lt-ltb, le-ltb}
-use borrow.Author.Rules.{rules}
 use Rattle.inspect.proofs.keys.leading.Goals as goal
 
 pub returns-then-k-le-POINTER : goal.returns-then-k-le-POINTER

@@ -1,7 +1,6 @@
 use native.Mathlib.Omega.{arith}
 use borrow.Author.Tests.{lt-ltb, le-ltb}
 use Rattle.volume.specs.Keys.{low}
-use borrow.Author.Rules.{rules}
 use Rattle.inspect.proofs.keys.low.Goals as goal
 
 pub returns-then-n-le64 : goal.returns-then-n-le64

@@ -1,6 +1,5 @@
 use native.Mathlib.Omega.{arith}
 use borrow.Author.Tests.{lt-ltb, le-ltb, eq-eqb, ne_eqb}
-use borrow.Author.Rules.{rules}
 use Rattle.inspect.proofs.keys.next_key.Goals as goal
 
 pub returns-then-n-k : goal.returns-then-n-k

@@ -1,5 +1,4 @@
 use borrow.Author.Tests.{eq-eqb, ne_eqb}
-use borrow.Author.Rules.{rules}
 use Rattle.inspect.proofs.keys.prev_key.Goals as goal
 
 pub returns-then-k-low : goal.returns-then-k-low

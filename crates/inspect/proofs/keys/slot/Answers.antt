@@ -2,7 +2,6 @@ use native.Mathlib.Omega.{arith}
 use borrow.Author.Tests.{lt-ltb, le-ltb}
 use Rattle.volume.specs.Keys.{slot}
 use Rattle.volume.proofs.KeyLaws.{slot_far, slot_data}
-use borrow.Author.Rules.{rules}
 use Rattle.inspect.proofs.keys.slot.Goals as goal
 
 pub returns-then-k-le256 : goal.returns-then-k-le256

@@ -1,5 +1,4 @@
 use Rattle.inspect.proofs.Signs.{self}
-use borrow.Author.Rules.{rules}
 use Rattle.inspect.proofs.numbers.has_number.Goals as goal
 
 pub returns : goal.returns

@@ -1,5 +1,4 @@
 use Rattle.inspect.proofs.Signs.{number_is, number_not}
-use borrow.Author.Rules.{rules}
 use Rattle.inspect.proofs.numbers.is_number.Goals as goal
 
 pub returns-then-signed_word-n : goal.returns-then-signed_word-n

@@ -1,5 +1,4 @@
 use Rattle.inspect.proofs.Signs.{number_fits, number_of}
-use borrow.Author.Rules.{rules}
 use Rattle.inspect.proofs.numbers.number_of.Goals as goal
 
 pub overflow_sub-result : goal.overflow_sub-result

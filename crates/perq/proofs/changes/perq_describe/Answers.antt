@@ -1,6 +1,5 @@
 use Rattle.volume.specs.Calls.{describe}
 use Rattle.perq.specs.Fits.{made_fits, answered_fits, changed}
-use borrow.Author.Rules.{rules}
 use Rattle.perq.proofs.changes.perq_describe.Goals as goal
 
 pub flat-requires : goal.flat-requires

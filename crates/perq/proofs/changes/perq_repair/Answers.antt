@@ -1,6 +1,5 @@
 use Rattle.volume.specs.Calls.{repair}
 use Rattle.perq.specs.Fits.{made_fits, answered_fits, changed}
-use borrow.Author.Rules.{rules}
 use Rattle.perq.proofs.changes.perq_repair.Goals as goal
 
 pub flat-requires : goal.flat-requires

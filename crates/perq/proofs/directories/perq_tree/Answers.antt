@@ -1,7 +1,6 @@
 use mathlib.Core.Path.{◌∙◌}
 use native.Mathlib.Omega.{arith}
 use Rattle.perq.specs.Named.{treed_fits}
-use borrow.Author.Rules.{rules}
 use Rattle.perq.proofs.directories.perq_tree.Goals as goal
 
 pub flat-requires : goal.flat-requires

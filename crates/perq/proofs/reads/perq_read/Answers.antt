@@ -1,7 +1,6 @@
 use mathlib.Core.Path.{◌∙◌}
 use native.Mathlib.Omega.{arith}
 use Rattle.perq.specs.Fits.{read_fits}
-use borrow.Author.Rules.{rules}
 use Rattle.perq.proofs.reads.perq_read.Goals as goal
 
 pub flat-requires : goal.flat-requires

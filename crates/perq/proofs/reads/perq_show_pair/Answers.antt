@@ -1,6 +1,5 @@
 use mathlib.Core.Path.{◌∙◌}
 use Rattle.perq.specs.Fits.{shown_pair_fits, shown_pair_image}
-use borrow.Author.Rules.{rules}
 use Rattle.perq.proofs.reads.perq_show_pair.Goals as goal
 
 pub flat_from-requires : goal.flat_from-requires

@@ -1,6 +1,5 @@
 use Prim.Native.Nat.{◌*◌}
 use Rattle.tree.proofs.Laws.{row_laid}
-use borrow.Author.Rules.{rules}
 use Rattle.tree.proofs.row.put_row.Goals as goal
 
 pub returns : goal.returns

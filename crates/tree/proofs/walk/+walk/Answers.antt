@@ -1,15 +1,11 @@
 use mathlib.Core.Path.{sym, ap, ◌∙◌}
-use Prim.Native.Nat.{ℕ, ◌-◌, ◌*◌, ◌<◌}
+use Prim.Native.Nat.{ℕ, ◌*◌}
 use native.Mathlib.Omega.{arith}
-use lib.ListN.{length}
-use borrow.Author.Rules.{rules}
-use Rattle.directory.specs.Directory.{selected, entries, tree, walked}
-use Rattle.image.specs.Stores.{lay}
 use Rattle.directory.specs.Entries.{met_short, met_is_file, met_what}
 use Rattle.directory.proofs.Laws.{file_opened}
 use Rattle.inspect.proofs.Laws.{opened_len}
 use Rattle.tree.specs.Items.{tree_sized}
-use Rattle.tree.specs.Walks.{writes, Leaves, leaves_all, walk_deep, walk_starts, walk_ends, walk_skip, walk_full, walk_row, walk_back, walk_stopped, walk_too_deep}
+use Rattle.tree.specs.Walks.{leaves_all, walk_deep, walk_starts, walk_ends, walk_skip, walk_full, walk_row, walk_back, walk_stopped, walk_too_deep}
 use Rattle.tree.proofs.walk.+walk.Goals as goal
 
 pub returns-then-left-lt1 : goal.returns-then-left-lt1
