@@ -224,8 +224,8 @@ whole_kept y c k = record { end = y.end; held = whole_held y.held y.is c k; is =
 
 pub runs_kept : {d s : ℕ} (l : List ℕ) → Sound d s l → (cs : List Call) → AllProper cs → Sound d s (runs d s l cs)
 unfolding runs
-runs_kept l y [] k = y
-runs_kept l y (c ∷ cs) k = runs_kept _ (whole_kept y c k.0) cs k.1
+runs_kept {d = d} {s = s} l y [] k = y
+runs_kept {d = d} {s = s} l y (c ∷ cs) k = runs_kept (whole d s l c) (whole_kept y c k.0) cs k.1
 
 -- ---- demand 3
 

@@ -24,23 +24,14 @@ span a n = omega arith
 
 -- a copy into a part
 pub put_lay : (b src t : List ℕ) (at : ℕ) → at + length src ≤ length b
-    → t ≡ take (length src) src ++ drop (length src) (take (at + length src - at) (drop at b))
-    → take at b ++ (t ++ drop (at + length src - at) (drop at b)) ≡ lay b at src
+    → t ≡ src → take at b ++ (t ++ drop (at + length src - at) (drop at b)) ≡ lay b at src
 unfolding lay
-put_lay b src t at h e =
-    let p = take (at + length src - at) (drop at b) in
-    let m : length p ≤ length src = rw (length-take-le (at + length src - at) (drop at b) (rw length-drop (omega arith))) (omega arith) in
-    let z : t ≡ src = e ∙ rw (take-length, drop_of_length-le p m, append-nil) in
-    rw (z, span, drop-drop, lay)
+put_lay b src t at h e = rw (e, span, drop-drop, lay)
 
 -- record b, copied out
-pub copied_out : (l z : List ℕ) (b k : ℕ) → k ≡ 528 → In l b → length z ≡ 528
-    → rec_of (take (length (take k (drop (528 * b) l))) (take k (drop (528 * b) l)) ++ drop (length (take k (drop (528 * b) l))) z) ≡ view l b
+pub copied_out : (l : List ℕ) (b k : ℕ) → k ≡ 528 → In l b → rec_of (take k (drop (528 * b) l)) ≡ view l b
 unfolding rec_of view
-copied_out l z b k e h hz =
-    let n : length (take 528 (drop (528 * b) l)) ≡ 528 = length-take-le 528 (drop (528 * b) l) (simp length-drop (omega arith)) in
-    let m : length z ≤ 528 = omega arith in
-    rw (e, take-length, n, drop_of_length-le z m, append-nil) (fun_ext (λ w. go w (ltb w 264) refl))
+copied_out l b k e h = rw e (fun_ext (λ w. go w (ltb w 264) refl))
   where
     go : (w : ℕ) (t : Bool) → ltb w 264 ≡ t → rec_of (take 528 (drop (528 * b) l)) w ≡ view l b w
     go w true q =
@@ -146,12 +137,11 @@ module _ (r d : List ℕ) (n : ℕ) (hr : length r ≡ 528) (hd : length d ≡ 2
               at true q = ltb-true w 8 q
               at false q = absurd (false≢true (sym p ∙ le-leb 8 w (ltb-false w 8 q)))
 
-pub data_set : (r d t : List ℕ) → length r ≡ 528 → length d ≡ 512 → t ≡ take (length d) d ++ drop (length d) (take 512 (drop 16 r))
+pub data_set : (r d t : List ℕ) → length r ≡ 528 → length d ≡ 512 → t ≡ d
     → rec_of (take 16 r ++ (t ++ drop 512 (drop 16 r))) ≡ with_data (words d) (rec_of r)
 unfolding with_data words both rec_of
 data_set r d t hr hd e =
-    let n : length (take 512 (drop 16 r)) ≤ 512 = simp length-take (omega arith) in
-    rw (e, take-length, hd, drop_of_length-le (take 512 (drop 16 r)) n, append-nil) (fun_ext (λ w. go w (ltb w 264) refl (ltb w 8) refl))
+    rw e (fun_ext (λ w. go w (ltb w 264) refl (ltb w 8) refl))
   where
     go : (w : ℕ) (t : Bool) → ltb w 264 ≡ t → (u : Bool) → ltb w 8 ≡ u → rec_of (take 16 r ++ (d ++ drop 512 (drop 16 r))) w ≡ pick u (rec_of r w) (words d (w - 8))
     go w true q true z = let m : w < 8 = ltb-true w 8 z in mid_word r d 256 hr hd (omega arith) w (ltb-true w 264 q) ∙ rw (lt-leb 8 w m)
@@ -163,12 +153,11 @@ data_set r d t hr hd e =
         let b : length d ≤ 2 * (w - 8) + 1 = omega arith in
         rw q (rw (get_or-eq_default d 0 a, get_or-eq_default d 0 b))
 
-pub text_set : (r d t : List ℕ) → length r ≡ 528 → length d ≡ 104 → t ≡ take (length d) d ++ drop (length d) (take 104 (drop 16 r))
+pub text_set : (r d t : List ℕ) → length r ≡ 528 → length d ≡ 104 → t ≡ d
     → rec_of (take 16 r ++ (t ++ drop 104 (drop 16 r))) ≡ with_text (words d) (rec_of r)
 unfolding with_text words both rec_of
 text_set r d t hr hd e =
-    let n : length (take 104 (drop 16 r)) ≤ 104 = simp length-take (omega arith) in
-    rw (e, take-length, hd, drop_of_length-le (take 104 (drop 16 r)) n, append-nil) (fun_ext (λ w. go w (ltb w 264) refl))
+    rw e (fun_ext (λ w. go w (ltb w 264) refl))
   where
     go : (w : ℕ) (t : Bool) → ltb w 264 ≡ t → rec_of (take 16 r ++ (d ++ drop 104 (drop 16 r))) w ≡ pick (both (leb 8 w) (ltb w 60)) (words d (w - 8)) (rec_of r w)
     go w true q = mid_word r d 52 hr hd (omega arith) w (ltb-true w 264 q)
@@ -177,8 +166,8 @@ text_set r d t hr hd e =
 -- ---- a store
 
 -- a copy of all of r over the first bytes of p
-pub copied : (r p : List ℕ) → length r ≡ 528 → Bytes r → take (length r) r ++ drop (length r) p ≡ bytes_of (rec_of r) ++ drop 528 p
-copied r p h b = rw (take-length, h, bytes_rec r h b)
+pub copied : (r t p : List ℕ) → length r ≡ 528 → Bytes r → t ≡ r → t ++ drop 528 p ≡ bytes_of (rec_of r) ++ drop 528 p
+copied r t p h b e = rw (e, bytes_rec r h b)
 
 -- a record stored in the part from 528 * b on is the record stored in the whole
 pub stored_at : (l r : List ℕ) (b k : ℕ) (t : List ℕ) → length l ≡ 528 * b + k → t ≡ r ++ drop 528 (take k (drop (528 * b) l))

@@ -21,9 +21,6 @@ use Rattle.inspect.proofs.Laws.{shown_at}
 
 -- ---- parts
 
-pub put_all : (src buf : List ℕ) → length buf ≡ length src → take (length src) src ++ drop (length src) buf ≡ src
-put_all src buf h = let m : length buf ≤ length src = omega arith in rw (take-length, drop_of_length-le buf m, append-nil)
-
 -- a part that lies in the list is as long as it says
 pub part_long : (l : List ℕ) (at n : ℕ) → at + n ≤ length l → length (take (at + n - at) (drop at l)) ≡ n
 part_long l at n h = rw span (length-take-le n (drop at l) (rw length-drop (omega arith)))

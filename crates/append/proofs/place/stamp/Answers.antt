@@ -1,0 +1,20 @@
+use Rattle.volume.specs.KeyLaws.{number_small}
+use Rattle.volume.specs.Writes.{empty}
+use Rattle.growth.specs.Afterwards.{present_new}
+use Rattle.inspect.proofs.Signs.{passed_word, passed_fits}
+use Rattle.append.proofs.Laws.{fresh_block, key_small}
+use borrow.Author.Rules.{rules}
+use Rattle.append.proofs.place.stamp.Goals as goal
+
+pub word-filler-requires : goal.word-filler-requires
+word-filler-requires c = ((fresh_block c.requires.0 _ c.requires.1 _ (c.fresh.ensures _ c.requires.0 c.requires.1)).within, search rules)
+
+pub number_of-requires : goal.number_of-requires
+number_of-requires c = key_small c.requires.0 _ (present_new _ _ _ _ _ c.requires.1)
+
+pub with_signed-x-requires : goal.with_signed-x-requires
+with_signed-x-requires c = (search rules, passed_fits _ _ (record { sfits = c.number_of.type_inv }) c.number_of.ensures)
+
+pub returns : goal.returns
+unfolding empty
+returns c = λ dat. rw (c.with_pair.ensures, c.pda_of.ensures.0, c.with_signed-x.ensures, passed_word _ _ (record { sfits = c.number_of.type_inv }) c.number_of.ensures (number_small _), c.with_word-x.ensures, c.word-filler.ensures.0, c.fresh.ensures _ c.requires.0 c.requires.1, c.blank.ensures)

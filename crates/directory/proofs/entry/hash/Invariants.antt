@@ -1,0 +1,11 @@
+use Rattle.directory.specs.Entries.{Weighed, weighs, weigh_next}
+use native.Mathlib.Omega.{arith}
+use Prim.Native.Nat.{◌-◌, ◌≤◌}
+use lib.ListN.{length}
+use Rattle.directory.proofs.entry.hash.Given as goal
+
+abbrev pub invariant-loop-i : goal.invariant-loop-i
+invariant-loop-i l = (Weighed l.rule l.x l.i l.sum) × (l.i ≤ length l.x)
+
+abbrev pub decreases-loop-i : goal.decreases-loop-i
+decreases-loop-i l = length l.x - l.i

@@ -1,0 +1,11 @@
+use mathlib.Core.Path.{sym, ◌∙◌}
+use borrow.Author.Rules.{rules}
+use Rattle.drive.specs.Fits.{lda_small}
+use Rattle.drive.specs.Names.{address_kept, address_new}
+use Rattle.drive.proofs.address.Goals as goal
+
+pub returns-then-is_lda : goal.returns-then-is_lda
+returns-then-is_lda c = (sym (address_kept _ _ _ (sym c.is_lda.ensures ∙ c.if-is_lda.true)), c.requires.0)
+
+pub returns-else-is_lda : goal.returns-else-is_lda
+returns-else-is_lda c = (c.lda.ensures ∙ sym (address_new _ _ _ (sym c.is_lda.ensures ∙ c.if-is_lda.false)), rw c.lda.ensures (lda_small _ _ c.requires.1))

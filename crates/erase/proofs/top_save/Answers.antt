@@ -1,0 +1,13 @@
+use mathlib.Core.Path.{sym}
+use Rattle.volume.specs.Plans.{top_gone_stores}
+use Rattle.records.proofs.Laws.{stands, stands_none}
+use borrow.Author.Rules.{rules}
+use Rattle.erase.proofs.top_save.Goals as goal
+
+pub returns-then-alone : goal.returns-then-alone
+unfolding top_gone_stores
+returns-then-alone c = stands_none c.none.ensures.0 c.none.ensures.1 c.requires.0 (sym (rw (top_gone_stores, c.if-alone.true)))
+
+pub returns : goal.returns
+unfolding top_gone_stores
+returns c = stands (rw (top_gone_stores, c.if-alone.false, c.saved.ensures.0, c.top_gone.ensures)) c.saved.ensures.1 c.requires.0

@@ -1,0 +1,15 @@
+use mathlib.Core.Path.{sym, ◌∙◌}
+use native.Mathlib.Omega.{arith}
+use Rattle.volume.specs.KeyLaws.{number_small}
+use Rattle.inspect.proofs.Signs.{passed_word, passed_fits}
+use Rattle.inspect.proofs.Laws.{named_held}
+use borrow.Author.Rules.{rules}
+use Rattle.inspect.proofs.index.ptr_named.Goals as goal
+
+pub names-requires : goal.names-requires
+names-requires c =
+    (c.requires.0, passed_fits _ _ (record { sfits = c.number_of.type_inv }) c.number_of.ensures)
+
+pub returns : goal.returns
+returns c =
+    let h = c.requires in rw (passed_word _ _ (record { sfits = c.number_of.type_inv }) c.number_of.ensures (number_small _), c.pair-x.ensures.0, c.slot.ensures.0, h.2) at c.names.ensures ∙ sym (named_held _ _ _ _ (λ z. omega (arith, z, h.4)) c.holder.ensures.0)

@@ -1,0 +1,20 @@
+use mathlib.Core.Path.{sym, ◌∙◌}
+use Rattle.volume.specs.Answers.{shown_pair}
+use Rattle.inspect.proofs.Laws.{shown_in}
+use borrow.Author.Rules.{rules}
+use Rattle.shows.proofs.show_pair.Goals as goal
+
+pub part_at-requires : goal.part_at-requires
+part_at-requires c = shown_in _ _ _ _ _ _ _ _ (sym c.show_answer-x.ensures ∙ c.in-Done.is)
+
+pub returns-in-Done : goal.returns-in-Done
+unfolding shown_pair
+returns-in-Done c = rw (sym c.show_answer-x.ensures ∙ c.in-Done.is, shown_pair) c.part_at.ensures
+
+pub returns-in-Absent : goal.returns-in-Absent
+unfolding shown_pair
+returns-in-Absent c = rw (sym c.show_answer-x.ensures ∙ c.in-Absent.is, shown_pair) c.nothing.ensures
+
+pub returns-in-Refused : goal.returns-in-Refused
+unfolding shown_pair
+returns-in-Refused c = rw (sym c.show_answer-x.ensures ∙ c.in-Refused.is, shown_pair) c.show.ensures
