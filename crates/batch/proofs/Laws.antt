@@ -1,11 +1,5 @@
--- The search for the only good partition: what is found and what is ahead have the whole's answer. Assumes nothing.
-use mathlib.Core.Path.{◌≡◌, refl, sym, ap, ◌∙◌}
-use mathlib.Core.Bool.{Bool, true, false}
-use mathlib.Core.List.{List, [], ◌∷◌}
-use Prim.Native.Nat.{ℕ, zero, suc, ◌+◌, ◌-◌, ◌≤◌, ◌<◌}
-use native.Mathlib.Numerals.{add-one}
-use native.Mathlib.Omega.{arith}
-use lib.ListN.{length}
+-- The search for the only good partition: what is found and what is ahead have the whole's answer.
+use Rattle.std.proofs.Common.{◌≡◌, refl, sym, ap, ◌∙◌, Bool, true, false, List, [], ◌∷◌, ℕ, zero, suc, ◌+◌, ◌-◌, ◌≤◌, ◌<◌, length, add-one, arith}
 use Rattle.base.specs.Tests.{pick, those}
 use Rattle.volume.specs.Answers.{partition}
 use Rattle.volume.specs.Reads.{lies}

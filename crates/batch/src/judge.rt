@@ -2,13 +2,18 @@
 ghost use Rattle.std.specs.Prelude.{◌≡◌};
 ghost use Rattle.batch.specs.Found.{good, only, looked};
 
+use std::io::{Cursor, Read};
+use std::rt::Files;
+use std::{fs, io, str};
 use verdict::Verdict;
 use volume::Part;
 
-// The bytes of a record, and of the longest image that is taken.
+// The bytes of a record, of the longest image that is taken, and of what is read: one more, by which a longer file is known.
 pub const RECORD: usize = 528;
 
 const LONGEST: usize = 24 * RECORD;
+
+const ROOM: usize = LONGEST + 1;
 
 // What is found of a file: the verdict on its only partition; or that it has several, is longer than this program takes, or is not read.
 #[derive(Clone, Copy)]
@@ -91,21 +96,22 @@ fn unread(why: Finding) -> Judged {
     }
 }
 
-// What is found of a file. Past what was read there is nothing, unless the file is longer than the buffer or reading it failed.
-pub fn file(path: &[u8], drive: usize) -> Judged {
-    let fd = os::open_read(path);
-    if fd < 0 {
+// Reads a file into img, as much of it as there is room for, and answers how many bytes that are. A path that is not UTF-8 names no file.
+fn read(rt: &impl Files, path: &[u8], img: &mut [u8]) -> io::Result<usize> {
+    let path = str::from_utf8(path).map_err(|_| io::ErrorKind::InvalidFilename)?;
+    let room = img.len() as u64;
+    let file = fs::open(rt, path)?;
+    let n = io::copy(&mut file.take(room), &mut Cursor::new(img))?;
+    Ok(n as usize)
+}
+
+// What is found of a file. One that is longer than the longest image fills all the room.
+pub fn file(rt: &impl Files, path: &[u8], drive: usize) -> Judged {
+    let mut img = [0u8; ROOM];
+    let Ok(n) = read(rt, path, &mut img) else {
         return unread(Finding::Unread);
-    }
-    let mut img = [0u8; LONGEST];
-    let n = io::read_full(fd, &mut img);
-    let mut past = [0u8; 1];
-    let got = libc::read(fd, &mut past);
-    libc::close(fd);
-    if got < 0 {
-        return unread(Finding::Unread);
-    }
-    if 0 < got {
+    };
+    if LONGEST < n {
         return unread(Finding::Long);
     }
     image(&mut img[..n], drive)

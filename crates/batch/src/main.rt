@@ -6,6 +6,9 @@
 ghost use Rattle.std.specs.Prelude.{◌<◌};
 
 use crate::judge::Finding;
+use std::env::FillError;
+use std::io;
+use std::rt::{Env, Files};
 
 mod judge; // judge.rt: what comes of an image
 mod table; // table.rt: the report
@@ -21,12 +24,7 @@ struct Counts {
 
 // One more if so.
 fn more(n: usize, is_one: bool) -> usize {
-    if is_one {
-        if n < usize::MAX {
-            return n + 1;
-        }
-    }
-    n
+    if is_one { n.saturating_add(1) } else { n }
 }
 
 // The counts with one more image.
@@ -43,14 +41,26 @@ fn counted(c: Counts, f: Finding) -> Counts {
 // A number that no drive has.
 const NO_DRIVE: usize = 4;
 
-// The drive that word i names by its number. A word that is missing or no such digit names one that is not there.
-fn drive(i: usize) -> usize {
-    let mut word = [0u8; 1];
-    if os::arg(i, &mut word) < 1 {
-        return NO_DRIVE;
+// The bytes of the longest name that is taken. No path is longer.
+const NAME: usize = 4096;
+
+// How many words the command line has, the program's own name among them. A word that does not fit is one too.
+fn words(rt: &impl Env) -> usize {
+    for i in 0..usize::MAX {
+        if let Err(FillError::NotPresent) = rt.arg(i, &mut []) {
+            return i;
+        }
     }
-    let digit = word[0];
-    match digit {
+    usize::MAX
+}
+
+// The drive that word i names by its number. A word that is missing or no such digit names one that is not there.
+fn drive(rt: &impl Env, i: usize) -> usize {
+    let mut word = [0u8; 1];
+    let Ok(1) = rt.arg(i, &mut word) else {
+        return NO_DRIVE;
+    };
+    match word[0] {
         b'0' => 0,
         b'1' => 1,
         b'2' => 2,
@@ -59,34 +69,41 @@ fn drive(i: usize) -> usize {
     }
 }
 
-// Judges the image that word i names, on the drive of the word behind it, and writes its line.
-fn image(i: usize) -> Finding
+// Judges the image that word i names, on the drive of the word behind it, and writes its line. A word that does not fit is taken as an
+// empty name, which is no file's.
+fn image(rt: &(impl Env + Files + Print), i: usize) -> io::Result<Finding>
     requires { i < 18446744073709551615 }
 {
-    let mut name = io::buffer();
-    let n = os::arg(i, &mut name);
-    let judged = judge::file(&name[..n], drive(i + 1));
-    table::line(&name[..n], judged);
-    judged.finding
+    let mut name = [0u8; NAME];
+    let n = rt.arg(i, &mut name).unwrap_or(0);
+    let judged = judge::file(rt, &name[..n], drive(rt, i + 1));
+    table::line(rt, &name[..n], judged)?;
+    Ok(judged.finding)
 }
 
 // Goes over all images, and answers the counts.
-fn images() -> Counts {
+fn images(rt: &(impl Env + Files + Print)) -> io::Result<Counts> {
     let mut counts = Counts {
         sound: 0,
         repaired: 0,
         aside: 0,
         refused: 0,
     };
-    let pairs = os::arg_count() / 2;
+    let pairs = words(rt) / 2;
     for i in 0..pairs {
-        counts = counted(counts, image(2 * i + 1));
+        counts = counted(counts, image(rt, 2 * i + 1)?);
     }
-    counts
+    Ok(counts)
 }
 
-fn main() {
-    table::head();
-    let counts = images();
-    table::counts(counts.sound, counts.repaired, counts.aside, counts.refused);
+fn main(rt: HostRuntime) -> io::Result<()> {
+    table::head(&rt)?;
+    let counts = images(&rt)?;
+    table::counts(
+        &rt,
+        counts.sound,
+        counts.repaired,
+        counts.aside,
+        counts.refused,
+    )
 }

@@ -1,6 +1,6 @@
 // The report in the words of the tool: a line for each image, and the counts.
 use crate::judge::{Finding, Judged, RECORD};
-use libc::STDOUT_FILENO;
+use std::io;
 use verdict::Verdict;
 
 // The outcomes, the best first.
@@ -36,148 +36,149 @@ pub fn rank(f: Finding) -> usize {
 }
 
 // Writes words.
-fn text(t: &[u8]) {
-    io::write_all(STDOUT_FILENO, t);
+fn text(rt: &impl Print, t: &str) -> io::Result<()> {
+    rt.print(t)
 }
 
 // Writes a number.
-fn number(x: usize) {
-    io::print_decimal(STDOUT_FILENO, x as u64);
+fn number(rt: &impl Print, x: usize) -> io::Result<()> {
+    rt.print(x)
 }
 
 // Fills a column in which n bytes stand, and begins the next.
-fn column(n: usize) {
+fn column(rt: &impl Print, n: usize) -> io::Result<()> {
     for _ in n..NAMES {
-        text(b" ");
+        text(rt, " ")?;
     }
-    text(b"  ");
+    text(rt, "  ")
 }
 
 // The line above all images.
-pub fn head() {
-    text(b"image");
-    column(5);
-    text(b"outcome\n");
+pub fn head(rt: &impl Print) -> io::Result<()> {
+    text(rt, "image")?;
+    column(rt, 5)?;
+    text(rt, "outcome\n")
 }
 
 // The name of an outcome, as wide as the longest.
-fn outcome(rank: usize) {
+fn outcome(rt: &impl Print, rank: usize) -> io::Result<()> {
     match rank {
-        SOUND => text(b"sound      "),
-        REPAIRED => text(b"repaired   "),
-        SET_ASIDE => text(b"set aside  "),
-        _ => text(b"refused    "),
+        SOUND => text(rt, "sound      "),
+        REPAIRED => text(rt, "repaired   "),
+        SET_ASIDE => text(rt, "set aside  "),
+        _ => text(rt, "refused    "),
     }
 }
 
 // What a partition holds.
-fn held(files: usize, owned: usize, free: usize) {
-    number(files);
-    if files == 1 {
-        text(b" file, ");
-    } else {
-        text(b" files, ");
-    }
-    number(owned);
-    text(b" blocks owned, ");
-    number(free);
-    text(b" free");
+fn held(rt: &impl Print, files: usize, owned: usize, free: usize) -> io::Result<()> {
+    let what = if files == 1 { "file" } else { "files" };
+    print!(rt; "{files} {what}, {owned} blocks owned, {free} free")
 }
 
 // A refusal's number, before the sentence.
-fn refused(n: usize) {
-    text(b"refused (");
-    number(n);
-    text(b"): ");
+fn refused(rt: &impl Print, n: usize) -> io::Result<()> {
+    print!(rt; "refused ({n}): ")
 }
 
 // Why so many bytes are no image.
-fn no_image(length: usize) {
+fn no_image(rt: &impl Print, length: usize) -> io::Result<()> {
     if length < 1 {
-        text(b"the image is empty");
-        return;
+        return text(rt, "the image is empty");
     }
     if length % RECORD == 0 {
-        text(b"no drive of that number has so many blocks");
-        return;
+        return text(rt, "no drive of that number has so many blocks");
     }
-    text(b"the image's ");
-    number(length);
-    text(b" bytes are no whole number of 528-byte records");
+    about(
+        rt,
+        "the image's ",
+        length,
+        " bytes are no whole number of 528-byte records",
+    )
 }
 
-// A block's number between words.
-fn about(before: &[u8], b: usize, after: &[u8]) {
-    text(before);
-    number(b);
-    text(after);
+// A number between words.
+fn about(rt: &impl Print, before: &str, n: usize, after: &str) -> io::Result<()> {
+    text(rt, before)?;
+    number(rt, n)?;
+    text(rt, after)
 }
 
 // Why an image of so many bytes, or its partition at s, is refused by that number.
-fn sentence(n: usize, length: usize, s: usize) {
-    refused(n);
+fn sentence(rt: &impl Print, n: usize, length: usize, s: usize) -> io::Result<()> {
+    refused(rt, n)?;
     match n {
-        1 => no_image(length),
-        2 => text(b"no good partition starts at any block"),
+        1 => no_image(rt, length),
+        2 => text(rt, "no good partition starts at any block"),
         9 => about(
-            b"the partition at block ",
+            rt,
+            "the partition at block ",
             s,
-            b" has no free block, so there is no chain to repair",
+            " has no free block, so there is no chain to repair",
         ),
-        _ => about(b"the partition at block ", s, b" is not as it must be"),
+        _ => about(rt, "the partition at block ", s, " is not as it must be"),
     }
 }
 
 // What is said of a verdict.
-fn remark(length: usize, s: usize, v: Verdict) {
+fn remark(rt: &impl Print, length: usize, s: usize, v: Verdict) -> io::Result<()> {
     match v {
-        Verdict::Sound(files, owned, free) => held(files, owned, free),
+        Verdict::Sound(files, owned, free) => held(rt, files, owned, free),
         Verdict::Repaired(stores, files, owned, free) => {
-            number(stores);
-            text(b" stores: ");
-            held(files, owned, free);
+            count(rt, stores, " stores: ")?;
+            held(rt, files, owned, free)
         }
         Verdict::SetAside(f) => {
-            refused(4);
-            about(b"block ", f, b" is a malformed file block");
+            refused(rt, 4)?;
+            about(rt, "block ", f, " is a malformed file block")
         }
-        Verdict::Refused(why) => sentence(base::number(why) as usize, length, s),
+        Verdict::Refused(why) => sentence(rt, base::number(why) as usize, length, s),
     }
 }
 
 // What is said of a finding on an image of so many bytes, or on its partition at s.
-fn said(length: usize, s: usize, f: Finding) {
+fn said(rt: &impl Print, length: usize, s: usize, f: Finding) -> io::Result<()> {
     match f {
-        Finding::Came(v) => remark(length, s, v),
-        Finding::Several => text(b"more than one good partition, and this program takes one"),
-        Finding::Long => text(
-            b"the image is longer than 24 records, and this program takes no more",
+        Finding::Came(v) => remark(rt, length, s, v),
+        Finding::Several => text(
+            rt,
+            "more than one good partition, and this program takes one",
         ),
-        Finding::Unread => text(b"cannot read it"),
+        Finding::Long => text(
+            rt,
+            "the image is longer than 24 records, and this program takes no more",
+        ),
+        Finding::Unread => text(rt, "cannot read it"),
     }
 }
 
-// The line of an image.
-pub fn line(name: &[u8], j: Judged) {
-    text(name);
-    column(name.len());
+// The line of an image. Its name need not be text.
+pub fn line(rt: &impl Print, name: &[u8], j: Judged) -> io::Result<()> {
+    rt.write_all(name)?;
+    column(rt, name.len())?;
     let f = j.finding;
-    outcome(rank(f));
-    said(j.length, j.s, f);
-    text(b"\n");
+    outcome(rt, rank(f))?;
+    said(rt, j.length, j.s, f)?;
+    text(rt, "\n")
 }
 
 // A count and what it counts.
-fn count(n: usize, what: &[u8]) {
-    number(n);
-    text(what);
+fn count(rt: &impl Print, n: usize, what: &str) -> io::Result<()> {
+    number(rt, n)?;
+    text(rt, what)
 }
 
 // The last line: how many images had each outcome.
-pub fn counts(sound: usize, repaired: usize, aside: usize, refused: usize) {
-    text(b"\n");
-    count(sound, b" sound, ");
-    count(repaired, b" repaired, ");
-    count(aside, b" set aside, ");
-    count(refused, b" refused\n");
+pub fn counts(
+    rt: &impl Print,
+    sound: usize,
+    repaired: usize,
+    aside: usize,
+    refused: usize,
+) -> io::Result<()> {
+    text(rt, "\n")?;
+    count(rt, sound, " sound, ")?;
+    count(rt, repaired, " repaired, ")?;
+    count(rt, aside, " set aside, ")?;
+    count(rt, refused, " refused\n")
 }

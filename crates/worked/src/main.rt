@@ -4,6 +4,7 @@
 
 ghost use Rattle.std.specs.Prelude.{◌<◌};
 
+use std::io;
 use volume::Outcome;
 use volume::words::{FREE_HEAD, LAST_BLOCK, NEXT, PARTITION_END, PARTITION_START};
 
@@ -90,88 +91,92 @@ fn next(img: &[u8; 4224], b: usize) -> usize {
 }
 
 // Writes a number behind a space.
-fn number(x: usize) {
-    io::write_all(1, b" ");
-    io::print_decimal(1, x as u64);
+fn number(rt: &impl Print, x: usize) -> io::Result<()> {
+    print!(rt; " {x}")
 }
 
 // Ends a line.
-fn end() {
-    io::write_all(1, b"\n");
+fn end(rt: &impl Print) -> io::Result<()> {
+    println!(rt)
 }
 
 // Writes the free chain, at most eight blocks of it.
-fn chain(img: &[u8; 4224]) {
-    io::write_all(1, b", free:");
+fn chain(rt: &impl Print, img: &[u8; 4224]) -> io::Result<()> {
+    print!(rt; ", free:")?;
     let mut b = head(img);
     for _ in 0usize..8 {
         if b < 1 {
             break;
         }
-        number(b);
+        number(rt, b)?;
         b = next(img, b);
     }
+    Ok(())
 }
 
 // Writes the block that a call's store k is made to, or nothing where it has no such store.
-fn store(img: [u8; 4224], call: usize, k: usize)
+fn store(rt: &impl Print, img: [u8; 4224], call: usize, k: usize) -> io::Result<()>
     requires { k < 8 }
 {
     if k < made(img, call, k + 1) {
         let a = after(img, call, k);
         let b = after(img, call, k + 1);
-        number(changed(&a, &b));
+        number(rt, changed(&a, &b))?;
     }
+    Ok(())
 }
 
 // Writes how many stores a call makes, and the block of each.
-fn stores(img: [u8; 4224], call: usize) {
-    io::write_all(1, b" makes");
-    number(made(img, call, ALL));
-    io::write_all(1, b" stores:");
+fn stores(rt: &impl Print, img: [u8; 4224], call: usize) -> io::Result<()> {
+    print!(rt; " makes")?;
+    number(rt, made(img, call, ALL))?;
+    print!(rt; " stores:")?;
     for k in 0..8 {
-        store(img, call, k);
+        store(rt, img, call, k)?;
     }
+    Ok(())
 }
 
 // Writes a line for a call: its stores, and the free chain behind it. Answers the image behind it.
-fn line(img: [u8; 4224], call: usize) -> [u8; 4224] {
+fn line(rt: &impl Print, img: [u8; 4224], call: usize) -> io::Result<[u8; 4224]> {
     let x = after(img, call, ALL);
-    stores(img, call);
-    chain(&x);
-    end();
-    x
+    stores(rt, img, call)?;
+    chain(rt, &x)?;
+    end(rt)?;
+    Ok(x)
 }
 
 // Writes a line for the second append cut after k stores and repaired: the last block of the file, and the free chain.
-fn cut(img: [u8; 4224], k: usize) {
+fn cut(rt: &impl Print, img: [u8; 4224], k: usize) -> io::Result<()> {
     let x = after(after(img, SECOND, k), REPAIR, ALL);
-    io::write_all(1, b"append 1 cut after");
-    number(k);
-    io::write_all(1, b" stores: L =");
-    number(image::word(&x, 2, LAST_BLOCK));
-    chain(&x);
-    end();
+    print!(rt; "append 1 cut after")?;
+    number(rt, k)?;
+    print!(rt; " stores: L =")?;
+    number(rt, image::word(&x, 2, LAST_BLOCK))?;
+    chain(rt, &x)?;
+    end(rt)
 }
 
 // Writes a line for each cut of the second append.
-fn cuts(img: [u8; 4224]) {
+fn cuts(rt: &impl Print, img: [u8; 4224]) -> io::Result<()> {
     for k in 0..6 {
-        cut(img, k);
+        cut(rt, img, k)?;
     }
+    Ok(())
 }
 
-fn main() {
-    io::write_all(1, b"repair");
-    let fresh = line(unmade(), REPAIR);
-    io::write_all(1, b"create gives");
-    number(given(fresh));
-    let empty = line(fresh, CREATE);
-    io::write_all(1, b"append 0");
-    let one = line(empty, FIRST);
-    cuts(one);
-    io::write_all(1, b"append 1");
-    let two = line(one, SECOND);
-    io::write_all(1, b"destroy");
-    line(two, DESTROY);
+fn main(rt: HostRuntime) -> io::Result<()> {
+    print!(rt; "repair")?;
+    let fresh = line(&rt, unmade(), REPAIR)?;
+    print!(rt; "create gives")?;
+    number(&rt, given(fresh))?;
+    let empty = line(&rt, fresh, CREATE)?;
+    print!(rt; "append 0")?;
+    let one = line(&rt, empty, FIRST)?;
+    cuts(&rt, one)?;
+    print!(rt; "append 1")?;
+    let two = line(&rt, one, SECOND)?;
+    print!(rt; "destroy")?;
+    line(&rt, two, DESTROY)?;
+    Ok(())
 }

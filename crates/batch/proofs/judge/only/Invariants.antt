@@ -1,0 +1,6 @@
+-- The good one of the blocks looked at, and those ahead, have the whole's answer.
+use Rattle.batch.proofs.Laws.{Ahead}
+use Rattle.batch.proofs.judge.only.Given as goal
+
+abbrev pub invariant-loop-s : goal.invariant-loop-s
+invariant-loop-s l = Ahead l.drive l.img l.n l.found l.s

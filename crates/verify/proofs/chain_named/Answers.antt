@@ -1,0 +1,24 @@
+use mathlib.Core.Path.{sym, ap, ◌∙◌}
+use borrow.Author.Tests.{not-true, not-false}
+use Rattle.base.specs.Tests.{every}
+use Rattle.drive.specs.Address.{lda_block}
+use Rattle.volume.specs.Steps.{every_no, and_true}
+use Rattle.verify.specs.Walks.{named}
+use borrow.Author.Rules.{rules}
+use Rattle.verify.proofs.chain_named.Goals as goal
+
+pub returns-then-not-is_lda : goal.returns-then-not-is_lda
+unfolding named
+returns-then-not-is_lda c = let x = c.pair-x.ensures.0 in sym (every_no _ 0 (sym (rw (c.lda_block.ensures.0 ∙ ap (lda_block _) x, x) at c.is_lda.ensures) ∙ not-true _ c.if-not-is_lda.true-raw))
+
+pub returns-then-not-is_lda-2 : goal.returns-then-not-is_lda-2
+unfolding named
+returns-then-not-is_lda-2 c = sym (every_no _ 1 (sym (rw c.pair.ensures.0 at c.is_lda-2.ensures) ∙ not-true _ c.if-not-is_lda-2.true-raw))
+
+pub returns : goal.returns
+unfolding named every
+returns c =
+    let x = c.pair-x.ensures.0 in
+    let head = sym (rw (c.lda_block.ensures.0 ∙ ap (lda_block _) x, x) at c.is_lda.ensures) ∙ not-false _ c.if-not-is_lda.false-raw in
+    let tail = sym (rw c.pair.ensures.0 at c.is_lda-2.ensures) ∙ not-false _ c.if-not-is_lda-2.false-raw in
+    rw (c.pair-2.ensures.0, head, tail, named) (sym (and_true _))
