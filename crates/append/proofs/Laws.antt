@@ -14,11 +14,12 @@ use Rattle.image.specs.Image.{view}
 use Rattle.image.specs.Saves.{with_data}
 use Rattle.volume.specs.Words.{next_at, previous_at, last_block_at, last_address_at, low_address_at}
 use Rattle.volume.specs.Keys.{home, number, up, slot, low}
-use Rattle.volume.specs.KeyLaws.{low_home, low_pos, up_most}
+use Rattle.volume.proofs.KeyLaws.{low_home, low_pos, up_most}
 use Rattle.volume.specs.Files.{spot, present}
 use Rattle.volume.specs.declared.Partition.{Partition}
-use Rattle.volume.specs.Index.{spot_home}
-use Rattle.volume.specs.Closed.{next_key, prev_key, size_of, next_key_is, prev_key_is}
+use Rattle.volume.proofs.Index.{spot_home}
+use Rattle.volume.specs.Closed.{next_key, prev_key, size_of}
+use Rattle.volume.proofs.Closed.{next_key_is, prev_key_is}
 use Rattle.volume.specs.Plans.{st, free_at}
 use Rattle.volume.specs.Writes.{put2_if, over, counted, needs, is_new, fresh, present', spot', link', empty, base, entered, body, grown, store}
 use Rattle.growth.specs.Ready.{Behind}

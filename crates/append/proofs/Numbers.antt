@@ -10,12 +10,13 @@ use borrow.Author.Tests.{eqb-true, eqb-false}
 use Rattle.base.specs.Laws.{never}
 use Rattle.image.specs.View.{View}
 use Rattle.volume.specs.Keys.{home, low, span}
-use Rattle.volume.specs.KeyLaws.{first_pointer, low_pos, span_end, up_most}
+use Rattle.volume.proofs.KeyLaws.{first_pointer, low_pos, span_end, up_most}
 use Rattle.volume.specs.Files.{present}
 use Rattle.volume.specs.declared.Partition.{Partition}
-use Rattle.volume.specs.Index.{present_home, present_low, here_of, wf_of}
-use Rattle.volume.specs.Order.{count_window, least_present}
-use Rattle.volume.specs.Closed.{nearest, size_of, Among, asked_closed, nearest_in, near_asked, first_key, count_keys, least_closed}
+use Rattle.volume.proofs.Index.{present_home, present_low, here_of, wf_of}
+use Rattle.volume.proofs.Order.{count_window, least_present}
+use Rattle.volume.specs.Closed.{nearest, size_of}
+use Rattle.volume.proofs.Closed.{Among, asked_closed, nearest_in, near_asked, first_key, count_keys, least_closed}
 use Rattle.volume.specs.Writes.{over, needs, present', size'}
 use Rattle.growth.specs.Ready.{Behind}
 use Rattle.growth.specs.Path.{over_zero, over_up, over_least, over_nearest, over_far, needs_some, needs_one, needs_two, needs_three, new_at, new_not_home}

@@ -15,7 +15,7 @@ use Rattle.image.specs.declared.Save.{Save}
 use Rattle.volume.specs.Keys.{home, up, low}
 use Rattle.volume.specs.Files.{end, least}
 use Rattle.volume.specs.declared.Partition.{Partition}
-use Rattle.volume.specs.Closed.{least_closed}
+use Rattle.volume.proofs.Closed.{least_closed}
 use Rattle.volume.specs.Plans.{st, stores, new_first, pib_less, taken_stores}
 use Rattle.volume.specs.Writes.{over, inner, needs, above', below', early, store, plan_of, write_plan}
 use Rattle.growth.specs.Ready.{Behind}

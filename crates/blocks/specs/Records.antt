@@ -11,8 +11,9 @@ use Rattle.image.specs.View.{View, Rec, pair, put2}
 use Rattle.image.specs.Image.{rec_of}
 use Rattle.volume.specs.Words.{slot_at, free_head_at, free_tail_at, number_free_at}
 use Rattle.volume.specs.Keys.{home, child, first}
-use Rattle.volume.specs.KeyLaws.{child_pair}
-use Rattle.volume.specs.Closed.{entries_of, entry_asked}
+use Rattle.volume.proofs.KeyLaws.{child_pair}
+use Rattle.volume.specs.Closed.{entries_of}
+use Rattle.volume.proofs.Closed.{entry_asked}
 use Rattle.volume.specs.Plans.{trimmed, shaped}
 
 -- the PIB s of n free blocks from `first` to `last`

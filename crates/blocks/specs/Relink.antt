@@ -9,7 +9,7 @@ use Rattle.volume.specs.Words.{serial_at, relative_at, next_at, previous_at}
 use Rattle.volume.specs.Keys.{reach, key_of}
 use Rattle.volume.specs.Files.{len, present, candidate, file_of, key, owned, above, below, link}
 use Rattle.volume.specs.declared.Partition.{Partition}
-use Rattle.volume.specs.Index.{own, file_candidate}
+use Rattle.volume.proofs.Index.{own, file_candidate}
 use Rattle.volume.specs.Plans.{shaped, content, relinked}
 use Rattle.inspect.specs.Parts.{Opened}
 use Rattle.inspect.proofs.Laws.{opened_few}

@@ -19,7 +19,7 @@ use Rattle.volume.specs.Files.{candidate, free, free_head}
 use Rattle.volume.specs.declared.Partition.{Partition}
 use Rattle.volume.specs.Plans.{Plan, stores, free_at, free_tail, taken_stores, create_plan, describe_plan}
 use Rattle.volume.specs.Calls.{Planned, refuse, finish, room, create_in, describe_in, Answered}
-use Rattle.volume.specs.Reads.{inside_of, candidate_in}
+use Rattle.volume.proofs.Readings.{inside_of, candidate_in}
 use Rattle.volume.specs.declared.Answer.{Answer}
 use Rattle.frame.specs.Sound.{free_in, sound_clean, sound_number, head_free, tail_free}
 use Rattle.frame.specs.Taking.{taken}

@@ -7,7 +7,7 @@ use Rattle.std.proofs.Math.Dec.{leb, ltb, eqb}
 use borrow.Author.Tests.{leb-true, le-leb, le-ltb, eqb-true}
 use Rattle.base.specs.Tests.{every}
 use Rattle.base.specs.Laws.{every_at}
-use Rattle.volume.specs.Steps.{every_cons, every_nil}
+use Rattle.volume.proofs.Steps.{every_cons, every_nil}
 use Rattle.base.specs.declared.Refusal.{Refusal}
 use Rattle.base.specs.declared.Refusal.TheVariants.{NoCandidate, BadBlock, Full}
 use Rattle.image.specs.Image.{view}

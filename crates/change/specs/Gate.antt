@@ -11,7 +11,8 @@ use Rattle.volume.specs.Files.{partition_of, sound}
 use Rattle.volume.specs.declared.Partition.{Partition}
 use Rattle.volume.specs.Answers.{image_good, part_good, end_of, partition, lowest_malformed, Unmarred}
 use Rattle.volume.specs.Calls.{Planned, refuse, through}
-use Rattle.volume.specs.Reads.{Lies, lies}
+use Rattle.volume.specs.Reads.{Lies}
+use Rattle.volume.proofs.Readings.{lies}
 use Rattle.volume.specs.declared.Found.{Found}
 use Rattle.volume.specs.declared.Found.TheVariants.{At, Nothing}
 use Rattle.volume.specs.declared.Lent.{Lent}

@@ -9,13 +9,13 @@ use Rattle.base.specs.Tests.{pick, occ}
 use Rattle.base.specs.Laws.{both_of}
 use Rattle.image.specs.View.{View, Store, places}
 use Rattle.volume.specs.Keys.{home}
-use Rattle.volume.specs.KeyLaws.{low_home}
+use Rattle.volume.proofs.KeyLaws.{low_home}
 use Rattle.volume.specs.Files.{inside, candidate, well_formed, is_file, len, end, spot, present, least, owned, sound, free}
 use Rattle.volume.specs.declared.Partition.{Partition}
-use Rattle.volume.specs.Index.{Names, named_owned, one_key, owned_in, wf_of, spot_home, present_home}
-use Rattle.volume.specs.Order.{least_present}
-use Rattle.volume.specs.Closed.{least_closed}
-use Rattle.volume.specs.Reads.{inside_of}
+use Rattle.volume.proofs.Index.{Names, named_owned, one_key, owned_in, wf_of, spot_home, present_home}
+use Rattle.volume.proofs.Order.{least_present}
+use Rattle.volume.proofs.Closed.{least_closed}
+use Rattle.volume.proofs.Readings.{inside_of}
 use Rattle.volume.specs.Plans.{Plan, stores, free_at, free_tail}
 use Rattle.volume.specs.Calls.{room}
 use Rattle.frame.specs.Sound.{sound_clean, sound_once, free_in, free_starts, tail_free}

@@ -22,14 +22,15 @@ use Rattle.volume.specs.Plans.{st, stores, new_first, pib_less, gone, top_gone, 
 use Rattle.volume.specs.Writes.{needs, write_plan, replace_plan}
 use Rattle.volume.specs.Calls.{Planned, refuse, finish, lent_block, lent_text, unmarred, through, room, Call, create, write, describe, destroy, repair, create_in, append_in, write_in, describe_in, destroy_in, repair_in, planned}
 use Rattle.volume.specs.Answers.{lowest_malformed}
-use Rattle.volume.specs.Reads.{in_part}
+use Rattle.volume.proofs.Readings.{in_part}
 use Rattle.volume.specs.declared.Found.{Found}
 use Rattle.volume.specs.declared.Found.TheVariants.{At, Nothing}
 use Rattle.volume.specs.declared.Lent.{Lent}
 use Rattle.volume.specs.declared.Lent.TheVariants.{Fine}
 use Rattle.volume.specs.declared.Part.{Part}
 use Rattle.volume.specs.declared.Part.TheVariants as part
-use Rattle.growth.specs.Promise.{Writing, write_few, write_once}
+use Rattle.growth.specs.Promise.{Writing}
+use Rattle.growth.proofs.Promise.{write_few, write_once}
 use Rattle.change.specs.Gate.{gate, Opens, enters, shut}
 use Rattle.change.specs.Hits.{bit, hit, times, times_append, times_cons, times_none, hit_one, times_plan, length_plan, some_times, some_length, budget, free_two, free_last, file_hits}
 

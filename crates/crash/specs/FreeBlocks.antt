@@ -8,7 +8,7 @@ use Rattle.image.specs.View.{View}
 use Rattle.volume.specs.Keys.{home}
 use Rattle.volume.specs.Files.{inside, candidate, spot, present, well_formed, file_of, key, owned, free, free_head, sound}
 use Rattle.volume.specs.declared.Partition.{Partition}
-use Rattle.volume.specs.Index.{spot_home, present_home, member_owned, key_back, member}
+use Rattle.volume.proofs.Index.{spot_home, present_home, member_owned, key_back, member}
 use Rattle.frame.specs.Soft.{cand_serial}
 use Rattle.frame.specs.Sound.{sound_clean, free_in, free_not, head_free}
 

@@ -12,15 +12,15 @@ use Rattle.image.specs.View.{View, Rec, pair, put, put2, blank}
 use Rattle.volume.specs.Words.{next_at, previous_at}
 use Rattle.volume.specs.Search.{seek}
 use Rattle.volume.specs.Keys.{home, number, slot, low, span}
-use Rattle.volume.specs.KeyLaws.{slot_fib, number_home}
+use Rattle.volume.proofs.KeyLaws.{slot_fib, number_home}
 use Rattle.volume.specs.Files.{inside, candidate, len, spot, present, least, size, tally, well_formed, above, below, link}
 use Rattle.volume.specs.declared.Partition.{Partition}
-use Rattle.volume.specs.Index.{spot_home, present_home, here_of, of_wf}
-use Rattle.volume.specs.Order.{next_one, prev_one, above_next, below_prev}
+use Rattle.volume.proofs.Index.{spot_home, present_home, here_of, of_wf}
+use Rattle.volume.proofs.Order.{next_one, prev_one, above_next, below_prev}
 use Rattle.volume.specs.Plans.{fresh_fib}
 use Rattle.frame.specs.Reading.{word}
-use Rattle.drive.specs.Names.{lda_self}
-use Rattle.frame.specs.FreeChain.{Links}
+use Rattle.drive.proofs.Names.{lda_self}
+use Rattle.frame.proofs.FreeChain.{Links}
 
 -- nothing stands in its links, its description and its index
 module _ (d : ℕ) (v : View) (h kind : ℕ) where

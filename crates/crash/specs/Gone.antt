@@ -1,11 +1,11 @@
--- The records that destroy stores: no serial, and the old links, but for the previous link of the first block; words that fit.
-use Rattle.std.specs.Prelude.{◌≡◌, refl, Bool, ℕ, ◌+◌, ◌*◌, ◌≤◌, ◌<◌}
-use Rattle.std.proofs.Common.{sym, ◌∙◌, true≢false, arith}
+-- The records that destroy stores in a file's blocks: no serial, and the old links, but for the previous link of the first block; words that
+-- fit.
+use Rattle.std.specs.Prelude.{◌≡◌, ℕ, ◌+◌, ◌*◌, ◌≤◌, ◌<◌}
+use Rattle.std.proofs.Common.{◌∙◌, arith}
 use Rattle.std.proofs.Math.Path.{ap₂}
-use Rattle.std.proofs.Math.Bool.{true, false}
 use Rattle.drive.specs.Address.{pda}
 use Rattle.image.specs.View.{View}
-use Rattle.volume.specs.Plans.{gone, top_gone, fib_gone, as_filler}
+use Rattle.volume.specs.Plans.{gone, top_gone, as_filler}
 use Rattle.frame.specs.Reading.{two, put_off, put2_off, put2_here}
 use Rattle.frame.specs.Fitting.{put_fits, put2_fits}
 use Rattle.image.specs.Stores.{Fits}
@@ -21,11 +21,6 @@ module _ (d : ℕ) (v : View) (h tl : ℕ) where
   top_zero b =
       ap₂ (λ (x y : ℕ). x + 65536 * y) (put2_off 6 _ (gone v h b) 0 (λ z. omega arith) (λ z. omega arith)) (put2_off 6 _ (gone v h b) 1 (λ z. omega arith) (λ z. omega arith)) ∙ gone_zero b
 
-  pub fib_zero : (f : ℕ) (alone : Bool) → two (fib_gone d v h tl f alone) 0 ≡ 0
-  unfolding fib_gone
-  fib_zero f true = top_zero f
-  fib_zero f false = put2_here 0 0 (v f)
-
   -- a link word that stays in the record of a block: all but the previous link of the first
   pub gone_word : (b w : ℕ) → 4 ≤ w → gone v h b w ≡ v b w
   unfolding gone
@@ -35,19 +30,9 @@ module _ (d : ℕ) (v : View) (h tl : ℕ) where
   unfolding top_gone
   top_word b w l m = put2_off 6 _ _ w (λ z. omega arith) (λ z. omega arith) ∙ gone_word b w l
 
-  pub fib_word_is : (f w : ℕ) (alone : Bool) → 4 ≤ w → (alone ≡ true → w < 6) → fib_gone d v h tl f alone w ≡ v f w
-  unfolding fib_gone
-  fib_word_is f w true l m = top_word f w l (m refl)
-  fib_word_is f w false l m = put2_off 0 0 (v f) w (λ z. omega arith) (λ z. omega arith)
-
   pub top_prev : (b : ℕ) → two (top_gone d v h tl b) 6 ≡ pda d tl
   unfolding top_gone
   top_prev b = put2_here 6 _ (gone v h b)
-
-  pub fib_prev : (f : ℕ) (alone : Bool) → alone ≡ true → two (fib_gone d v h tl f alone) 6 ≡ pda d tl
-  unfolding fib_gone
-  fib_prev f true q = top_prev f
-  fib_prev f false q = absurd (true≢false (sym q))
 
   -- they are words that fit
   module _ (fits : (b : ℕ) → Fits (v b)) where
@@ -59,8 +44,3 @@ module _ (d : ℕ) (v : View) (h tl : ℕ) where
       pub top_fits : (b : ℕ) → Fits (top_gone d v h tl b)
       unfolding top_gone
       top_fits b = put2_fits 6 _ (omega arith) small (gone_fits b)
-
-      pub fib_fits : (f : ℕ) (alone : Bool) → Fits (fib_gone d v h tl f alone)
-      unfolding fib_gone
-      fib_fits f true = top_fits f
-      fib_fits f false = put2_fits 0 0 (omega arith) (omega arith) (fits f)

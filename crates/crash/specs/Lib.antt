@@ -1,32 +1,19 @@
--- Read Statement first, then Theorem, Laws and Answering; the other rooms are the proof, from the ground up.
+-- Read Statement first, then Answering; the other rooms say what its proof, in proofs/, speaks of, and a few facts that it rests on.
 
--- the statement, its proof, the laws beside it, and the same in the calls' own terms
+-- the statement, and the same in the calls' own terms
 pub mod Statement
-pub mod Theorem
-pub mod Laws
 pub mod Answering
 -- a law of repair: an all-zero partition becomes a fresh one
 pub mod Zeroed
--- files in two views, a run of stores that is cut, what makes a partition sound, what its files need, and lawful stores
+-- files in two views, repairs that are cut, what makes a partition sound, what its files need, and lawful stores
 pub mod SameFile
 pub mod Cut
 pub mod FreeBlocks
-pub mod Whole
 pub mod Needed
 pub mod Lawful
--- the calls, one by one: each changes its file alone at its deciding store, whole leaves a sound partition, and stores lawfully
+-- the calls: records, blocks and lists that their stores are made of, and what each does to its file
 pub mod Fresh
 pub mod Create
-pub mod OneBlock
 pub mod Returned
 pub mod Gone
-pub mod Destroy
-pub mod LawfulRepair
 pub mod Effect
--- from views to images: what each call owes and comes to, an image that holds a partition
-pub mod Owes
-pub mod Write
-pub mod Settled
-pub mod Stopped
-pub mod Held
-pub mod Accepting

@@ -9,7 +9,7 @@ use Rattle.frame.specs.Sound.{sound_once, sound_within, sound_number}
 use Rattle.base.specs.Sums.{count_both}
 use Rattle.frame.specs.Needed.{needed, owned_needed}
 use Rattle.volume.specs.Words.{number_free_at}
-use Rattle.frame.specs.FreeChain.{length_unowned}
+use Rattle.frame.proofs.FreeChain.{length_unowned}
 
 module _ (π : Partition) (v : View) where
   -- the free chain has the others

@@ -11,15 +11,15 @@ use Rattle.image.specs.View.{View, Rec, pair, put2}
 use Rattle.volume.specs.Words.{next_at, previous_at}
 use Rattle.volume.specs.Files.{candidate, spot, present, least, well_formed, file_of, key, owned, free, chained, sound}
 use Rattle.volume.specs.declared.Partition.{Partition}
-use Rattle.volume.specs.Index.{own, member, member_owned, file_back}
-use Rattle.volume.specs.Order.{least_present}
+use Rattle.volume.proofs.Index.{own, member, member_owned, file_back}
+use Rattle.volume.proofs.Order.{least_present}
 use Rattle.volume.specs.Plans.{free_tail}
 use Rattle.frame.specs.Reading.{two, put2_off, put2_here}
 use Rattle.frame.specs.Sound.{tail_is, tail_free, sound_clean, sound_linked, sound_chained, free_in, free_once, sound_some}
-use Rattle.frame.specs.FreeChain.{links_of}
-use Rattle.frame.specs.Listed.{blocks, chained_blocks, occ_mine, occ_other, head_blocks}
+use Rattle.frame.proofs.FreeChain.{links_of}
+use Rattle.frame.proofs.Listed.{blocks, chained_blocks, occ_mine, occ_other, head_blocks}
 use Rattle.frame.specs.Joined.{chained_first, chained_join}
-use Rattle.volume.specs.Reads.{or_pda}
+use Rattle.volume.proofs.Readings.{or_pda}
 
 module _ (π : Partition) (v : View) (ok : sound π v ≡ true) (f : ℕ) (cf : candidate π v f ≡ true) where
   abbrev top : ℕ

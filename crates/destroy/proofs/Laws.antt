@@ -8,7 +8,8 @@ use Rattle.image.specs.View.{View}
 use Rattle.image.specs.Image.{view}
 use Rattle.base.specs.declared.Refusal.TheVariants.{NoCandidate}
 use Rattle.volume.specs.Keys.{home, low}
-use Rattle.volume.specs.Closed.{size_of, least_closed, size_closed}
+use Rattle.volume.specs.Closed.{size_of}
+use Rattle.volume.proofs.Closed.{least_closed, size_closed}
 use Rattle.volume.specs.Files.{candidate, well_formed, len, spot, present, free_head}
 use Rattle.volume.specs.declared.Partition.{Partition}
 use Rattle.volume.specs.Plans.{destroyed, destroy_plan, free_tail}

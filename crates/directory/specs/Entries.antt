@@ -13,7 +13,7 @@ use Rattle.image.specs.Image.{view}
 use Rattle.volume.specs.Words.{file_type_at}
 use Rattle.volume.specs.Files.{is_file, name}
 use Rattle.volume.specs.declared.Partition.{Partition}
-use Rattle.volume.specs.Steps.{every_no, and_true, Passed, pass_next, pass_fails, pass_end, ne_of, eq_of}
+use Rattle.volume.proofs.Steps.{every_no, and_true, Passed, pass_next, pass_fails, pass_end, ne_of, eq_of}
 use Rattle.volume.specs.declared.Found.{Found}
 use Rattle.volume.specs.declared.Found.TheVariants.{At, Nothing}
 use Rattle.directory.specs.Directory.{upper, same_name, Selection, weigh, hash, is_rule, selected, name_length, taken_at, is_directory, file_at, target_of, met_target, place_of, met_at}

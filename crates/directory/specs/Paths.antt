@@ -13,8 +13,8 @@ use Rattle.image.specs.View.{pair}
 use Rattle.image.specs.Image.{view}
 use Rattle.volume.specs.Files.{name, len, is_file}
 use Rattle.volume.specs.declared.Partition.{Partition}
-use Rattle.volume.specs.Reads.{candidate_in}
-use Rattle.volume.specs.Steps.{lowest_at, more, none, Searching, search_starts_as, search_hit, search_next}
+use Rattle.volume.proofs.Readings.{candidate_in}
+use Rattle.volume.proofs.Steps.{lowest_at, more, none, Searching, search_starts_as, search_hit, search_next}
 use Rattle.volume.specs.declared.Found.{Found}
 use Rattle.volume.specs.declared.Found.TheVariants.{At, Nothing}
 use Rattle.directory.specs.Directory.{Selection, same_name, name_at, taken_at, is_directory, file_at, target_of, hit, find, part_end, as_looked, follow, onward, entered_at, entered, look, look_from}

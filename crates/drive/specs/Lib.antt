@@ -5,5 +5,4 @@ pub mod Answers
 pub mod Laws
 pub mod Wording
 pub mod Fits
-pub mod Names
 pub mod Ranges

@@ -18,7 +18,7 @@ use Rattle.base.specs.Laws.{both_of, both_left, both_right}
 use Rattle.volume.specs.Words.{next_at, previous_at}
 use Rattle.volume.specs.Files.{chain, chained, within}
 use Rattle.volume.specs.declared.Partition.{Partition}
-use Rattle.volume.specs.Reads.{inside_of, of_inside}
+use Rattle.volume.proofs.Readings.{inside_of, of_inside}
 use Rattle.base.specs.Sums.{count_both}
 
 -- ---- the chain from a block, by its link

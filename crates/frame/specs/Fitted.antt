@@ -14,9 +14,9 @@ use Rattle.image.specs.Stores.{Fits}
 use Rattle.volume.specs.Keys.{home}
 use Rattle.volume.specs.Files.{within, len, spot, present, file_of, key, owned, unowned, above, below, link}
 use Rattle.volume.specs.declared.Partition.{Partition}
-use Rattle.volume.specs.Reads.{inside_of}
-use Rattle.volume.specs.Index.{own, member, file_candidate, file_formed}
-use Rattle.volume.specs.Order.{above_next, below_prev}
+use Rattle.volume.proofs.Readings.{inside_of}
+use Rattle.volume.proofs.Index.{own, member, file_candidate, file_formed}
+use Rattle.volume.proofs.Order.{above_next, below_prev}
 use Rattle.volume.specs.Plans.{trimmed, shaped, content, relinked, freed, repaired}
 use Rattle.frame.specs.Chain.{above_in, below_in, within_those}
 use Rattle.frame.specs.Fitting.{put_fits, put2_fits, trimmed_fits}

@@ -1,17 +1,10 @@
 pub mod Soft
 pub mod Chain
-pub mod Turn
 pub mod Repair
 pub mod Sound
-pub mod Restart
-pub mod Mended
 pub mod Fitting
 pub mod Fitted
 pub mod Needed
 pub mod Reading
-pub mod FreeChain
 pub mod Joined
 pub mod Taking
-pub mod Drawn
-pub mod Listed
-pub mod Decides

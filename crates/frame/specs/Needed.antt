@@ -12,10 +12,10 @@ use Rattle.image.specs.View.{View}
 use Rattle.volume.specs.Keys.{home}
 use Rattle.volume.specs.Files.{block_at, candidate, well_formed, is_file, len, spot, present, file_of, key, owned, size}
 use Rattle.volume.specs.declared.Partition.{Partition}
-use Rattle.volume.specs.Index.{Own, own, file_candidate, file_formed, member, member_owned, file_back, key_back, present_high}
-use Rattle.volume.specs.Order.{size_is}
+use Rattle.volume.proofs.Index.{Own, own, file_candidate, file_formed, member, member_owned, file_back, key_back, present_high}
+use Rattle.volume.proofs.Order.{size_is}
 use Rattle.frame.specs.Soft.{cand_in}
-use Rattle.volume.specs.Reads.{inside_of}
+use Rattle.volume.proofs.Readings.{inside_of}
 
 -- what file f needs, or 0; what all files need
 unfoldable pub needs : Partition → View → ℕ → ℕ

@@ -9,15 +9,12 @@ use borrow.Author.Tests.{ltb-true, eqb-true, ne_eqb, lt-leb}
 use Rattle.base.specs.Tests.{pick, both}
 use Rattle.image.specs.View.{View, Rec, put, put2}
 use Rattle.volume.specs.Words.{next_at, previous_at}
-use Rattle.volume.specs.Keys.{home, child, first, low}
-use Rattle.volume.specs.Files.{inside, owned, unowned}
+use Rattle.volume.specs.Keys.{home, child, first}
+use Rattle.volume.specs.Files.{owned, unowned}
 use Rattle.volume.specs.declared.Partition.{Partition}
-use Rattle.volume.specs.Index.{owned_not_pib}
-use Rattle.volume.specs.Frame.{Clean, Agree}
-use Rattle.frame.specs.Soft.{headed, headed_zero, tally_word, spare, Soft, Quiet, soft_refl, soft_agree}
+use Rattle.frame.specs.Soft.{tally_word, spare}
 use Rattle.volume.specs.Plans.{trimmed, shaped, content, relinked, freed, repaired}
-use Rattle.volume.specs.Steps.{both_no_2}
-use Rattle.volume.specs.Reads.{off_pib}
+use Rattle.volume.proofs.Steps.{both_no_2}
 
 -- ---- what repair leaves
 
@@ -77,46 +74,9 @@ module _ (π : Partition) (v : View) where
   unfolding relinked
   relinked_off b w n4 n5 n6 n7 = links_off _ _ (content π v b) w n4 n5 n6 n7
 
-  relinked_keeps : (b w : ℕ) → w ≢ 4 → w ≢ 5 → w ≢ 6 → w ≢ 7 → (w < 8) ⊎ (spare π v b w ≡ false) → relinked π v b w ≡ v b w
+  pub relinked_keeps : (b w : ℕ) → w ≢ 4 → w ≢ 5 → w ≢ 6 → w ≢ 7 → (w < 8) ⊎ (spare π v b w ≡ false) → relinked π v b w ≡ v b w
   unfolding content spare
   relinked_keeps b w n4 n5 n6 n7 h = relinked_off b w n4 n5 n6 n7 ∙ shaped_keeps _ _ (v b) w h
 
   abbrev pub Mid : View → Type 0
   Mid v' = (b : ℕ) → b ≢ π.s → (v' b ≡ v b) ⊎ (v' b ≡ repaired π v (unowned π v) b)
-
-  module _ (c : Clean π v) (v' : View) (m : Mid v') where
-    -- a word that repair keeps
-    keeps : (b w : ℕ) → owned π v b ≡ true → relinked π v b w ≡ v b w → v b w ≡ v' b w
-    keeps b w o h = go (m b (owned_not_pib π v b o))
-      where
-        go : (v' b ≡ v b) ⊎ (v' b ≡ repaired π v (unowned π v) b) → v b w ≡ v' b w
-        go (inl p) = sym (ap (λ (r : Rec). r w) p)
-        go (inr p) = sym (ap (λ (r : Rec). r w) (p ∙ repaired_mine (unowned π v) b o) ∙ h)
-
-    mid_soft : (b : ℕ) → owned π v b ≡ true → Soft π v b (v' b)
-    mid_soft b o = record {
-      head = record { low = low 0 (omega arith); high = low 1 (omega arith); rel = low 2 (omega arith) };
-      words = λ w l k. keeps b w o (relinked_keeps b w (λ z. omega arith) (λ z. omega arith) (λ z. omega arith) (λ z. omega arith) (inr k));
-    }
-      where
-        low : (w : ℕ) → w < 4 → v b w ≡ v' b w
-        low w l = keeps b w o (relinked_keeps b w (λ z. omega arith) (λ z. omega arith) (λ z. omega arith) (λ z. omega arith) (inl (omega arith)))
-
-    mid_free : (b : ℕ) → owned π v b ≡ false → (v' b ≡ v b) ⊎ (v' b ≡ repaired π v (unowned π v) b) → Quiet π v b (v' b)
-    unfolding freed put put2
-    mid_free b o (inl q) = inl (soft_refl π v b q)
-    mid_free b o (inr q) = inr (o, ap (headed π b) (q ∙ repaired_free (unowned π v) b o) ∙ headed_zero π b (freed π v (unowned π v) b) refl)
-
-    pub mid_quiet : (b : ℕ) → inside π b ≡ true → Quiet π v b (v' b)
-    mid_quiet b i = go (owned π v b) refl
-      where
-        go : (t : Bool) → owned π v b ≡ t → Quiet π v b (v' b)
-        go true o = inl (mid_soft b o)
-        go false o = mid_free b o (m b (off_pib π b i))
-
-    pub mid_agree : Agree π v v'
-    mid_agree = soft_agree π v c v' mid_quiet
-
-  -- each record that repair stores
-  pub repaired_quiet : Clean π v → (b : ℕ) → inside π b ≡ true → Quiet π v b (repaired π v (unowned π v) b)
-  repaired_quiet c b i = mid_quiet c (λ x. repaired π v (unowned π v) x) (λ x _. inr refl) b i

@@ -2,23 +2,23 @@
 -- block that no file owns and that does not become a candidate, leave every file as it was.
 use Rattle.std.specs.Prelude.{◌≡◌, ◌⊎◌, ◌≢◌, [], ◌∷◌, Bool, ◌&&◌, ℕ, ◌+◌, ◌*◌, ◌≤◌, ◌<◌, leb, ltb}
 use Rattle.std.proofs.Math.Path.{refl, ap, ap₂}
-use Rattle.std.proofs.Common.{sym, ◌∙◌, subst, inl, inr, true≢false, arith, add-zero}
+use Rattle.std.proofs.Common.{sym, ◌∙◌, subst, inl, inr, arith, add-zero}
 use Rattle.std.proofs.Math.Bool.{true, false}
 use Rattle.std.proofs.Math.Dec.{eqb}
 use borrow.Author.Tests.{eqb-true, eqb-false, le-ltb, ne_eqb, lt-leb}
 use Rattle.base.specs.Tests.{pick, both, every}
-use Rattle.base.specs.Laws.{every_at, iff_eq}
+use Rattle.base.specs.Laws.{every_at}
 use Rattle.drive.specs.Address.{pda}
 use Rattle.drive.specs.Laws.{pda_pos}
 use Rattle.image.specs.View.{View, Rec, pair}
 use Rattle.volume.specs.Words.{serial_at}
 use Rattle.volume.specs.Keys.{home, up, slot, child, first}
-use Rattle.volume.specs.KeyLaws.{slot_fib, slot_low, child_slot, low_pos, asked_low, asked_high}
+use Rattle.volume.proofs.KeyLaws.{slot_fib, slot_low, child_slot, low_pos, asked_low, asked_high}
 use Rattle.volume.specs.Files.{inside, candidate, len, spot, present, well_formed, file_of, key, owned}
 use Rattle.volume.specs.declared.Partition.{Partition}
-use Rattle.volume.specs.Index.{spot_home, present_home, wf_of, file_back, key_back, member_owned, owned_in}
-use Rattle.volume.specs.Frame.{SameHead, same_serial, head_of_same, Kept, Clean, Agree}
-use Rattle.volume.specs.Steps.{both_no_2}
+use Rattle.volume.proofs.Index.{spot_home, present_home, wf_of, file_back, key_back}
+use Rattle.volume.proofs.Frame.{SameHead, same_serial, head_of_same, Kept}
+use Rattle.volume.proofs.Steps.{both_no_2}
 
 -- a block with the record r would be a candidate
 unfoldable pub headed : Partition → ℕ → Rec → Bool
@@ -160,24 +160,3 @@ module _ (π : Partition) (v : View) where
           word : (k : ℕ) → k ≢ home → present π v f (up k) ≡ true → (first k < len v f) ⊎ (up k ≡ home) → (x : ℕ) → x < 2
               → v (spot π v f (up k)) (slot k + x) ≡ v' (spot π v f (up k)) (slot k + x)
           word k n p a x l = (soft-at (up k) p).words (slot k + x) (omega (arith, slot_low k)) (spare_entry k x n l p a)
-
-  module _ (c : Clean π v) (v' : View) (m : (b : ℕ) → inside π b ≡ true → Quiet b (v' b)) where
-    soft_own : (b : ℕ) → owned π v b ≡ true → Soft b (v' b)
-    soft_own b h = go (m b (owned_in π v b h))
-      where
-        go : Quiet b (v' b) → Soft b (v' b)
-        go (inl x) = x
-        go (inr x) = absurd (true≢false (sym h ∙ x.0))
-
-    at_own : (f : ℕ) → candidate π v f ≡ true → (k : ℕ) → present π v f k ≡ true → Soft (spot π v f k) (v' (spot π v f k))
-    at_own f cf k p = soft_own _ (member_owned π v f cf (c f cf) k p)
-
-    soft_cands : (f : ℕ) → candidate π v f ≡ candidate π v' f
-    soft_cands f = iff_eq _ _ (λ h. sym (cand_same π v v' f (soft_fib f h (c f h) v' (at_own f h)).head) ∙ h) (λ h. go h (m f (cand_in π v' f h)))
-      where
-        go : candidate π v' f ≡ true → Quiet f (v' f) → candidate π v f ≡ true
-        go h (inl x) = cand_same π v v' f x.head ∙ h
-        go h (inr x) = absurd (true≢false (sym h ∙ headed_is π v' f ∙ x.1))
-
-    pub soft_agree : Agree π v v'
-    soft_agree = record { kept = λ f cf. soft_kept f cf (c f cf) v' (at_own f cf); cands = soft_cands }

@@ -15,12 +15,12 @@ use Rattle.image.specs.View.{View, pair}
 use Rattle.volume.specs.Words.{free_head_at, free_tail_at, next_at, number_free_at}
 use Rattle.volume.specs.Files.{inside, within, candidate, well_formed, owned, unowned, linked, file_test, free, free_head, chain, chained, sound, free_sound}
 use Rattle.volume.specs.declared.Partition.{Partition}
-use Rattle.volume.specs.Frame.{Clean}
-use Rattle.drive.specs.Names.{lda_block_is}
+use Rattle.volume.proofs.Frame.{Clean}
+use Rattle.drive.proofs.Names.{lda_block_is}
 use Rattle.frame.specs.Chain.{occ_in}
 use Rattle.frame.specs.Soft.{cand_in}
-use Rattle.volume.specs.Reads.{inside_of, all_inside}
-use Rattle.volume.specs.Index.{unless_at}
+use Rattle.volume.proofs.Readings.{inside_of, all_inside}
+use Rattle.volume.proofs.Index.{unless_at}
 
 -- x stands in a list behind another, and at its head
 pub occ_more : (x y : ℕ) (l : List ℕ) → occ x l ≤ occ x (y ∷ l)

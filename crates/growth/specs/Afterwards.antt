@@ -7,17 +7,17 @@ use Rattle.base.specs.Tests.{pick}
 use Rattle.base.specs.Laws.{never, iff_eq}
 use Rattle.image.specs.View.{View}
 use Rattle.volume.specs.Keys.{home, reach, first, low}
-use Rattle.volume.specs.KeyLaws.{asked_low, asked_high, low_home, first_data, first_pointer, first_doubles}
+use Rattle.volume.proofs.KeyLaws.{asked_low, asked_high, low_home, first_data, first_pointer, first_doubles}
 use Rattle.volume.specs.Files.{inside, len, spot, present, key, owned}
 use Rattle.volume.specs.declared.Partition.{Partition}
-use Rattle.volume.specs.Index.{here_of, spot_home, present_home, wf_of, member, member_owned, key_back}
+use Rattle.volume.proofs.Index.{here_of, spot_home, present_home, wf_of, member, member_owned, key_back}
 use Rattle.volume.specs.Closed.{has_key}
 use Rattle.volume.specs.Plans.{free_at}
 use Rattle.volume.specs.Writes.{over, needs, is_new, fresh, present', spot'}
 use Rattle.growth.specs.Ready.{Behind, Ready}
 use Rattle.growth.specs.Path.{or_left, or_right, or_split, over_zero, over_data_is, over_double, placed, starts_new, new_at, new_gone, new_first_at, fresh_at}
 use Rattle.growth.specs.Room.{fresh_in, fresh_free, fresh_one}
-use Rattle.volume.specs.Reads.{off_pib}
+use Rattle.volume.proofs.Readings.{off_pib}
 
 module _ (π : Partition) (v : View) (f r : ℕ) where
   -- ---- what is present, and where

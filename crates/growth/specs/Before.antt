@@ -5,20 +5,20 @@ use Rattle.base.specs.Tests.{pick, both}
 use Rattle.base.specs.Laws.{both_left, both_right, both_of}
 use Rattle.image.specs.View.{View, Rec}
 use Rattle.volume.specs.Keys.{home, number, up, slot, child, first}
-use Rattle.volume.specs.KeyLaws.{child_slot, number_fib, up_most}
+use Rattle.volume.proofs.KeyLaws.{child_slot, number_fib, up_most}
 use Rattle.volume.specs.Files.{len, spot, present, above, below}
 use Rattle.volume.specs.declared.Partition.{Partition}
-use Rattle.volume.specs.Index.{spot_home, member, file_back, present_few}
+use Rattle.volume.proofs.Index.{spot_home, member, file_back, present_few}
 use Rattle.volume.specs.Writes.{over, needs, is_new, fresh, present', spot', above', below', base, holds, grown, store}
 use Rattle.frame.specs.Soft.{tally_word, headed, headed_rel, spare, spare_at, Soft}
-use Rattle.frame.specs.Turn.{Each, Calm, calm_soft, calm_free, Mine, mine_calm}
+use Rattle.frame.proofs.Turn.{Each, Calm, calm_soft, calm_free, Mine, mine_calm}
 use Rattle.growth.specs.Ready.{Ready}
 use Rattle.growth.specs.Path.{Placed, over_up, placed, new_absent, new_beyond, new_not_home, over_pos, over_few, new_inner}
 use Rattle.growth.specs.Room.{fresh_free}
 use Rattle.growth.specs.Lists.{All, mem}
 use Rattle.growth.specs.Afterwards.{present_new, present_old, present_split, spot_new, new_old, spot_is}
 use Rattle.growth.specs.Grown.{grown_off, grown_head, base_old, body_inner, entered_off, new_number}
-use Rattle.volume.specs.Frame.{SameHead}
+use Rattle.volume.proofs.Frame.{SameHead}
 
 module _ (π : Partition) (v : View) (f r : ℕ) (dat : Rec) (ok : Ready π v f r) where
   -- the one old block that names a new one

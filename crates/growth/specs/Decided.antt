@@ -10,14 +10,14 @@ use Rattle.image.specs.View.{View, Rec, Store, after, upd, upd_same, upd_other, 
 use Rattle.volume.specs.Keys.{home}
 use Rattle.volume.specs.Files.{well_formed, present, unowned, above, below}
 use Rattle.volume.specs.declared.Partition.{Partition}
-use Rattle.volume.specs.Frame.{Clean}
+use Rattle.volume.proofs.Frame.{Clean}
 use Rattle.volume.specs.Plans.{Plan, stores, free_at, new_first, pib_less, taken_stores}
 use Rattle.volume.specs.Writes.{over, needs, is_new, present', spot', above', below', grown, store, plan_of}
 use Rattle.frame.specs.Soft.{Soft, soft_refl}
-use Rattle.frame.specs.Turn.{Each, each_append, after_each, after_miss, after_append, Calm, calm_soft, calm_pib, Turn, Mine, mine_calm, turn_of, turn_free, each_map}
+use Rattle.frame.proofs.Turn.{Each, each_append, after_each, after_miss, after_append, Calm, calm_soft, calm_pib, Turn, Mine, mine_calm, turn_of, turn_free, each_map}
 use Rattle.frame.specs.Reading.{put_off, put2_off}
 use Rattle.frame.specs.Sound.{some_free}
-use Rattle.frame.specs.Decides.{Good}
+use Rattle.frame.proofs.Decides.{Good}
 use Rattle.growth.specs.Ready.{Tails, Ready}
 use Rattle.growth.specs.Path.{held}
 use Rattle.growth.specs.Lists.{All, mem, all_map, all_append, mem_left, mem_right, mem_here, keyed}
@@ -25,7 +25,7 @@ use Rattle.growth.specs.Afterwards.{present_new, present_old, present_split, hom
 use Rattle.growth.specs.Written.{Written, written_present, written_spot, written_formed}
 use Rattle.growth.specs.Before.{Early, early_present, calm_keys, mine_key, Order}
 use Rattle.growth.specs.Done.{Left, Done, done_written}
-use Rattle.volume.specs.Reads.{off_pib}
+use Rattle.volume.proofs.Readings.{off_pib}
 
 module _ (π : Partition) (v : View) (f r : ℕ) (dat : Rec) (ok : Ready π v f r) (fr : List ℕ) (o : Order π v f r dat ok fr) where
   -- the keys whose blocks are stored, the FIB's last

@@ -8,8 +8,8 @@ use Rattle.image.specs.View.{View, Rec, pair}
 use Rattle.volume.specs.Keys.{home, up, slot}
 use Rattle.volume.specs.Files.{len, spot, present, entry, above, below}
 use Rattle.volume.specs.declared.Partition.{Partition}
-use Rattle.volume.specs.Index.{entry_at}
-use Rattle.volume.specs.Frame.{SameHead, head_of_same, head_trans}
+use Rattle.volume.proofs.Index.{entry_at}
+use Rattle.volume.proofs.Frame.{SameHead, head_of_same, head_trans}
 use Rattle.volume.specs.Writes.{over, needs, is_new, fresh, present', spot', above', below', grown}
 use Rattle.frame.specs.Reading.{two}
 use Rattle.growth.specs.Ready.{Ready}

@@ -10,12 +10,12 @@ use Rattle.base.specs.Laws.{both_left}
 use Rattle.base.specs.Sums.{count_both}
 use Rattle.drive.specs.Address.{pda, lda}
 use Rattle.drive.specs.Fits.{pda_small, lda_small}
-use Rattle.drive.specs.Names.{address_small}
+use Rattle.drive.proofs.Names.{address_small}
 use Rattle.image.specs.View.{View, Rec}
 use Rattle.image.specs.Saves.{with_data}
 use Rattle.image.specs.Stores.{Fits}
 use Rattle.volume.specs.Keys.{home, number, slot, low, span}
-use Rattle.volume.specs.KeyLaws.{slot_high, span_end, number_small}
+use Rattle.volume.proofs.KeyLaws.{slot_high, span_end, number_small}
 use Rattle.volume.specs.Files.{inside, spot}
 use Rattle.volume.specs.declared.Partition.{Partition}
 use Rattle.volume.specs.Plans.{free_at}
@@ -25,7 +25,7 @@ use Rattle.frame.specs.Fitting.{put_fits, put2_fits, blank_fits, Words, data_fit
 use Rattle.growth.specs.Ready.{Ready}
 use Rattle.growth.specs.Afterwards.{len_short, spot_in_inside}
 use Rattle.growth.specs.Neighbours.{above'_is, below'_is, least'_there}
-use Rattle.volume.specs.Reads.{inside_of}
+use Rattle.volume.proofs.Readings.{inside_of}
 
 -- an entry, where it is put
 if_fits : (t : Bool) (i x : ℕ) {r : Rec} → i < 263 → (t ≡ true → x < 4294967296) → Fits r → Fits (put2_if t i x r)

@@ -12,10 +12,10 @@ use Rattle.image.specs.View.{View, Rec, pair, put, put2, blank}
 use Rattle.image.specs.Saves.{with_data}
 use Rattle.volume.specs.Words.{last_block_at, last_address_at}
 use Rattle.volume.specs.Keys.{home, number, up, slot, child}
-use Rattle.volume.specs.KeyLaws.{child_slot, slot_low, slot_fib, up_most}
+use Rattle.volume.proofs.KeyLaws.{child_slot, slot_low, slot_fib, up_most}
 use Rattle.volume.specs.Files.{spot, entry}
 use Rattle.volume.specs.declared.Partition.{Partition}
-use Rattle.volume.specs.Index.{spot_home}
+use Rattle.volume.proofs.Index.{spot_home}
 use Rattle.volume.specs.Plans.{free_at}
 use Rattle.volume.specs.Writes.{put2_if, over, counted, needs, newly, is_new, fresh, above', below', least', size', link', last_address, low_address, empty, base, holds, entered, ended, body, grown}
 use Rattle.frame.specs.Repair.{links_off}

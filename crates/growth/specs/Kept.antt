@@ -4,12 +4,12 @@ use Rattle.std.specs.Prelude.{◌≡◌, ◌⊎◌, ◌≢◌, Bool, true, false
 use Rattle.std.proofs.Common.{sym, ap, ap₂, ◌∙◌, subst, inl, inr, arith}
 use Rattle.base.specs.Tests.{pick}
 use Rattle.drive.specs.Address.{lda, address}
-use Rattle.drive.specs.Names.{address_kept, nil_new}
+use Rattle.drive.proofs.Names.{address_kept, nil_new}
 use Rattle.image.specs.View.{View, pair}
 use Rattle.volume.specs.Keys.{home, up, slot, first}
 use Rattle.volume.specs.Files.{len, spot, present, entry}
 use Rattle.volume.specs.declared.Partition.{Partition}
-use Rattle.volume.specs.Index.{wf_of}
+use Rattle.volume.proofs.Index.{wf_of}
 use Rattle.volume.specs.Writes.{is_new, fresh, present', spot'}
 use Rattle.growth.specs.Ready.{Tails, Ready}
 use Rattle.growth.specs.Path.{placed, new_beyond}

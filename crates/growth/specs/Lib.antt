@@ -9,7 +9,6 @@ pub mod Grown
 pub mod Before
 pub mod Done
 pub mod Decided
-pub mod Early
 pub mod Linked
 pub mod Sounds
 pub mod Fits

@@ -9,14 +9,14 @@ use Rattle.drive.specs.Address.{pda, lda}
 use Rattle.image.specs.View.{View, Rec, pair}
 use Rattle.volume.specs.Words.{next_at, previous_at, slot_at}
 use Rattle.volume.specs.Keys.{home, up, child, first}
-use Rattle.volume.specs.KeyLaws.{child_of, child_word, low_pos, up_home}
+use Rattle.volume.proofs.KeyLaws.{child_of, child_word, low_pos, up_home}
 use Rattle.volume.specs.Files.{len, spot, present, entry, well_formed, above, below, link}
 use Rattle.volume.specs.declared.Partition.{Partition}
-use Rattle.volume.specs.Index.{present_low, wf_of}
-use Rattle.volume.specs.Order.{above_next, below_prev}
+use Rattle.volume.proofs.Index.{present_low, wf_of}
+use Rattle.volume.proofs.Order.{above_next, below_prev}
 use Rattle.volume.specs.Writes.{is_new, fresh, present', spot', above', below', link', grown}
 use Rattle.frame.specs.Reading.{two}
-use Rattle.frame.specs.FreeChain.{Links}
+use Rattle.frame.proofs.FreeChain.{Links}
 use Rattle.growth.specs.Ready.{Tails, Ready}
 use Rattle.growth.specs.Path.{new_first_at}
 use Rattle.growth.specs.Afterwards.{present_not, len_more, spot_is}

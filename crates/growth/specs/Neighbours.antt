@@ -7,12 +7,13 @@ use Rattle.base.specs.Tests.{pick}
 use Rattle.base.specs.Laws.{never}
 use Rattle.image.specs.View.{View}
 use Rattle.volume.specs.Keys.{home, low, span}
-use Rattle.volume.specs.KeyLaws.{low_pos, span_end, up_most}
+use Rattle.volume.proofs.KeyLaws.{low_pos, span_end, up_most}
 use Rattle.volume.specs.Files.{len, present, above, below, least}
 use Rattle.volume.specs.declared.Partition.{Partition}
-use Rattle.volume.specs.Index.{present_low, present_high, wf_of}
-use Rattle.volume.specs.Order.{Next, Prev, next_one, prev_one, next_prev, least_present, seek_next, down_prev, seek_first, above_next, below_prev}
-use Rattle.volume.specs.Closed.{nearest, next_key, prev_key, next_key_is, prev_key_is, first_key, least_closed}
+use Rattle.volume.proofs.Index.{present_low, present_high, wf_of}
+use Rattle.volume.proofs.Order.{Next, Prev, next_one, prev_one, next_prev, least_present, seek_next, down_prev, seek_first, above_next, below_prev}
+use Rattle.volume.specs.Closed.{nearest, next_key, prev_key}
+use Rattle.volume.proofs.Closed.{next_key_is, prev_key_is, first_key, least_closed}
 use Rattle.volume.specs.Writes.{over, needs, is_new, present', above', below', least'}
 use Rattle.growth.specs.Ready.{Behind}
 use Rattle.growth.specs.Path.{over_zero, over_up, over_least, over_nearest, over_one, over_pos, needs_few, new_absent, new_at, new_not}

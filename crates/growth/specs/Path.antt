@@ -11,10 +11,10 @@ use Rattle.base.specs.Tests.{pick, both}
 use Rattle.base.specs.Laws.{both_left, both_right, both_of, never}
 use Rattle.image.specs.View.{View}
 use Rattle.volume.specs.Keys.{home, reach, up, first, low}
-use Rattle.volume.specs.KeyLaws.{level, level_few, level_zero, up_level, up_most, up_pos, up_home, first_up, first_data, row_direct, row_data, row_ptr}
+use Rattle.volume.proofs.KeyLaws.{level, level_few, level_zero, up_level, up_most, up_pos, up_home, first_up, first_data, row_direct, row_data, row_ptr}
 use Rattle.volume.specs.Files.{len, present}
 use Rattle.volume.specs.declared.Partition.{Partition}
-use Rattle.volume.specs.Index.{present_home, here_of, wf_of}
+use Rattle.volume.proofs.Index.{present_home, here_of, wf_of}
 use Rattle.volume.specs.Closed.{nearest}
 use Rattle.volume.specs.Plans.{free_at}
 use Rattle.volume.specs.Writes.{over, needs, newly, is_new, fresh, present'}

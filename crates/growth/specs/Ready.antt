@@ -4,13 +4,13 @@ use Rattle.std.proofs.Common.{sym, ap, ◌∙◌, subst, arith, add-zero, eqb-tr
 use Rattle.std.proofs.lemmas.Bool.{eqb-false}
 use Rattle.image.specs.View.{View, pair}
 use Rattle.volume.specs.Keys.{home, reach, up, slot, child, first}
-use Rattle.volume.specs.KeyLaws.{child_slot, slot_even, slot_high, up_most}
+use Rattle.volume.proofs.KeyLaws.{child_slot, slot_even, slot_high, up_most}
 use Rattle.volume.specs.Files.{inside, candidate, len, spot, present, entry, well_formed, owned, free, sound}
 use Rattle.volume.specs.declared.Partition.{Partition}
-use Rattle.volume.specs.Index.{WF, wf_of, entry_at, entry_fib}
+use Rattle.volume.proofs.Index.{WF, wf_of, entry_at, entry_fib}
 use Rattle.volume.specs.Plans.{free_at}
 use Rattle.volume.specs.Writes.{needs}
-use Rattle.frame.specs.FreeChain.{Links, links_of}
+use Rattle.frame.proofs.FreeChain.{Links, links_of}
 use Rattle.frame.specs.Sound.{sound_clean, sound_linked}
 use Rattle.frame.specs.Taking.{taken, differ}
 

@@ -8,15 +8,15 @@ use Rattle.volume.specs.Words.{last_address_at, low_address_at}
 use Rattle.volume.specs.Keys.{home, up, slot}
 use Rattle.volume.specs.Files.{candidate, well_formed, spot, present, entry, file_of, key, owned, free, sound}
 use Rattle.volume.specs.declared.Partition.{Partition}
-use Rattle.volume.specs.Index.{spot_home, present_home, own, member_owned, file_back, owned_not_pib}
-use Rattle.volume.specs.Frame.{SameHead, Clean}
+use Rattle.volume.proofs.Index.{spot_home, present_home, own, member_owned, file_back, owned_not_pib}
+use Rattle.volume.proofs.Frame.{SameHead, Clean}
 use Rattle.volume.specs.Plans.{free_at}
 use Rattle.volume.specs.Writes.{over, needs, is_new, fresh, present', spot', least'}
 use Rattle.frame.specs.Soft.{cand_same}
-use Rattle.frame.specs.Turn.{Turn, turn_clean, turn_keeps, turn_back}
+use Rattle.frame.proofs.Turn.{Turn, turn_clean, turn_keeps, turn_back}
 use Rattle.frame.specs.Sound.{sound_clean, sound_linked}
-use Rattle.frame.specs.FreeChain.{Links, links_of, sound_of, links_others}
-use Rattle.frame.specs.Drawn.{Taken, Drawn, left, drawn_free}
+use Rattle.frame.proofs.FreeChain.{Links, links_of, sound_of, links_others}
+use Rattle.frame.proofs.Drawn.{Taken, Drawn, left, drawn_free}
 use Rattle.growth.specs.Ready.{Tails, Ready, sound_tails}
 use Rattle.growth.specs.Path.{placed, new_at, fresh_at}
 use Rattle.growth.specs.Room.{fresh_free}
@@ -27,7 +27,7 @@ use Rattle.growth.specs.Before.{Order}
 use Rattle.growth.specs.Done.{Done, done_written}
 use Rattle.growth.specs.Linked.{file_links}
 use Rattle.growth.specs.Decided.{whole, done_whole, turn_whole, other_block, pib_rec_is, first_rec}
-use Rattle.volume.specs.Reads.{off_pib}
+use Rattle.volume.proofs.Readings.{off_pib}
 
 module _ (π : Partition) (v : View) (f r : ℕ) (dat : Rec) (ok : Ready π v f r) (so : sound π v ≡ true) (room : needs π v f r < length (free π v)) (fr : List ℕ) (od : Order π v f r dat ok fr) where
   abbrev W : View

@@ -10,14 +10,14 @@ use Rattle.image.specs.View.{View, pair}
 use Rattle.volume.specs.Words.{serial_at, relative_at, last_address_at, in_use_at, low_number_at, low_address_at}
 use Rattle.volume.specs.Search.{seek, down, seek_same, down_same, count_same}
 use Rattle.volume.specs.Keys.{home, number, reach, up, slot, first, low, span}
-use Rattle.volume.specs.KeyLaws.{key_ind, low_pos, asked_low, asked_high, fib_keys}
+use Rattle.volume.proofs.KeyLaws.{key_ind, low_pos, asked_low, asked_high, fib_keys}
 use Rattle.volume.specs.Files.{len, spot, present, entry, well_formed, above, below, least, size, tally}
 use Rattle.volume.specs.declared.Partition.{Partition}
-use Rattle.volume.specs.Index.{Here, here_of, of_here, spot_home, present_home, spot_step, entry_fib, Member, WF, wf_of, of_wf, member}
-use Rattle.volume.specs.Frame.{SameHead, same_serial}
+use Rattle.volume.proofs.Index.{Here, here_of, of_here, spot_home, present_home, spot_step, entry_fib, Member, WF, wf_of, of_wf, member}
+use Rattle.volume.proofs.Frame.{SameHead, same_serial}
 use Rattle.volume.specs.Plans.{free_at}
 use Rattle.volume.specs.Writes.{over, is_new, fresh, present', spot', above', below', least', size', last_address, low_address}
-use Rattle.drive.specs.Names.{lda_self, address_names}
+use Rattle.drive.proofs.Names.{lda_self, address_names}
 use Rattle.growth.specs.Ready.{Tails, Ready}
 use Rattle.growth.specs.Path.{over_zero, new_at, fresh_at, needs_some, new_first_at, new_up, home_old}
 use Rattle.growth.specs.Room.{fresh_in}

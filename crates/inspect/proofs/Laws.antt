@@ -10,18 +10,19 @@ use lib.ListN.{length}
 use borrow.Author.Tests.{ltb-true, ltb-false, eqb-true, eqb-false}
 use Rattle.base.specs.Tests.{every}
 use Rattle.drive.specs.Address.{pda, lda_block, is_lda}
-use Rattle.drive.specs.Names.{lda_bits}
+use Rattle.drive.proofs.Names.{lda_bits}
 use Rattle.image.specs.View.{View, pair}
 use Rattle.image.specs.Image.{view}
 use Rattle.volume.specs.Words.{data_offset, relative_at, slot_at, direct_at}
 use Rattle.volume.specs.Keys.{home, reach, number, up, slot, low}
-use Rattle.volume.specs.KeyLaws.{up_data, up_home, first_data, low_pos, near_keys, row_direct, row_data}
+use Rattle.volume.proofs.KeyLaws.{up_data, up_home, first_data, low_pos, near_keys, row_direct, row_data}
 use Rattle.volume.specs.Files.{partition_of, inside, serial, candidate, well_formed, named, len, entry, spot, present, name, above, below, least}
 use Rattle.volume.specs.declared.Partition.{Partition}
-use Rattle.volume.specs.Index.{wf_of, here_of, present_home, spot_home, spot_step, entry_at, entry_fib, present_low, present_high}
-use Rattle.volume.specs.Order.{above_next, below_prev, least_present}
+use Rattle.volume.proofs.Index.{wf_of, here_of, present_home, spot_home, spot_step, entry_at, entry_fib, present_low, present_high}
+use Rattle.volume.proofs.Order.{above_next, below_prev, least_present}
 use Rattle.volume.specs.Answers.{partition, shown, show_in}
-use Rattle.volume.specs.Reads.{inside_of, Lies, lies, candidate_in}
+use Rattle.volume.specs.Reads.{Lies}
+use Rattle.volume.proofs.Readings.{inside_of, lies, candidate_in}
 use Rattle.volume.specs.declared.Part.{Part}
 use Rattle.volume.specs.declared.Part.TheVariants as part
 use Rattle.volume.specs.declared.Outcome.TheVariants.{Done}

@@ -19,12 +19,14 @@ use Rattle.image.specs.Image.{view}
 use Rattle.image.specs.Signed.{signed}
 use Rattle.volume.specs.Words.{last_block_at}
 use Rattle.volume.specs.Keys.{home, reach, up, low}
-use Rattle.volume.specs.KeyLaws.{first_up, first_pointer, low_pos, up_far, closed_ptr}
+use Rattle.volume.proofs.KeyLaws.{first_up, first_pointer, low_pos, up_far, closed_ptr}
 use Rattle.volume.specs.Files.{well_formed, len, spot}
 use Rattle.volume.specs.declared.Partition.{Partition}
-use Rattle.volume.specs.Steps.{every_no, and_true, both_no}
-use Rattle.volume.specs.Closed.{nearest, asked_near}
-use Rattle.volume.specs.Reads.{Lies, inside_of}
+use Rattle.volume.proofs.Steps.{every_no, and_true, both_no}
+use Rattle.volume.specs.Closed.{nearest}
+use Rattle.volume.proofs.Closed.{asked_near}
+use Rattle.volume.specs.Reads.{Lies}
+use Rattle.volume.proofs.Readings.{inside_of}
 use Rattle.inspect.specs.Numbers.{last_good, blocks_to, last_good_is, blocks_to_is}
 use Rattle.inspect.specs.Form.{nil_from, double_test, doubles_good, entries_good, index_good, nils_good, numbers_good, form_good, form_closed, named_member, double_named}
 use Rattle.inspect.specs.Parts.{Readable}

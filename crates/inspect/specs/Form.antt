@@ -9,16 +9,17 @@ use borrow.Author.Tests.{ltb-true, ltb-false, eqb-true, le-ltb, eq-eqb, le-leb, 
 use Rattle.base.specs.Tests.{both, every, all}
 use Rattle.base.specs.Laws.{all_at, all_of, both_left, both_right, both_of, every_at, iff_eq}
 use Rattle.drive.specs.Address.{lda_block, is_lda}
-use Rattle.drive.specs.Names.{lda_some}
+use Rattle.drive.proofs.Names.{lda_some}
 use Rattle.image.specs.View.{View, pair}
 use Rattle.volume.specs.Words.{relative_at, direct_at, indirect_at, double_at, in_use_at, last_address_at, low_number_at, low_address_at}
 use Rattle.volume.specs.Keys.{home, reach, number, up, slot, first, low}
-use Rattle.volume.specs.KeyLaws.{key_ind, first_up, first_data, first_doubles, low_pos, asked_low, fib_keys, last_asked, closed_ptr, row_direct, row_ptr, row_double}
+use Rattle.volume.proofs.KeyLaws.{key_ind, first_up, first_data, first_doubles, low_pos, asked_low, fib_keys, last_asked, closed_ptr, row_direct, row_ptr, row_double}
 use Rattle.volume.specs.Files.{inside, serial, len, spot, present, entry, named, tally, well_formed}
 use Rattle.volume.specs.declared.Partition.{Partition}
-use Rattle.volume.specs.Index.{WF, Member, wf_of, of_wf, or_at, or_of, here_of, of_here, present_home, named_of}
-use Rattle.volume.specs.Steps.{every_cons, every_nil}
-use Rattle.volume.specs.Closed.{nearest, Among, size_of, asked_closed, near_asked, nearest_in, first_key, least_closed, size_closed, present_full, least_full, size_full}
+use Rattle.volume.proofs.Index.{WF, Member, wf_of, of_wf, or_at, or_of, here_of, of_here, present_home, named_of}
+use Rattle.volume.proofs.Steps.{every_cons, every_nil}
+use Rattle.volume.specs.Closed.{nearest, size_of}
+use Rattle.volume.proofs.Closed.{Among, asked_closed, near_asked, nearest_in, first_key, least_closed, size_closed, present_full, least_full, size_full}
 
 -- of the entries from word w of block f on, entry i is one of the first k, or nil
 abbrev pub nil_from : View → ℕ → ℕ → ℕ → ℕ → Bool

@@ -17,17 +17,19 @@ use Rattle.image.specs.View.{View, pair}
 use Rattle.image.specs.Image.{view}
 use Rattle.volume.specs.Words.{serial_at, relative_at}
 use Rattle.volume.specs.Keys.{home, reach, key_of, low}
-use Rattle.volume.specs.KeyLaws.{low_pos}
+use Rattle.volume.proofs.KeyLaws.{low_pos}
 use Rattle.volume.specs.Files.{candidate, is_file, len, spot, present, above, below, least, link, file_of, key, owned}
 use Rattle.volume.specs.declared.Partition.{Partition}
-use Rattle.volume.specs.Index.{present_low, present_high}
-use Rattle.volume.specs.Closed.{has_key, next_key, prev_key, present_closed, above_closed, below_closed, least_closed}
+use Rattle.volume.proofs.Index.{present_low, present_high}
+use Rattle.volume.specs.Closed.{has_key, next_key, prev_key}
+use Rattle.volume.proofs.Closed.{present_closed, above_closed, below_closed, least_closed}
 use Rattle.volume.specs.Answers.{Unmarred}
-use Rattle.volume.specs.Reads.{Lies, candidate_in}
-use Rattle.volume.specs.Steps.{both_no, both_no_2}
+use Rattle.volume.specs.Reads.{Lies}
+use Rattle.volume.proofs.Readings.{candidate_in}
+use Rattle.volume.proofs.Steps.{both_no, both_no_2}
 use Rattle.inspect.specs.Parts.{Opened}
 use Rattle.inspect.proofs.Laws.{wf_opened, opened_few}
-use Rattle.volume.specs.Frame.{clean_of}
+use Rattle.volume.proofs.Frame.{clean_of}
 
 -- a candidate's index can be read
 pub opened : {π : Partition} {l : List ℕ} → Lies π l → Unmarred π (view l) → (f : ℕ) → candidate π (view l) f ≡ true → Opened π l f

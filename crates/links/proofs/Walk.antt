@@ -13,13 +13,14 @@ use Rattle.image.specs.View.{View, pair}
 use Rattle.image.specs.Image.{view}
 use Rattle.volume.specs.Words.{next_at, previous_at, slot_at}
 use Rattle.volume.specs.Keys.{home, up, slot, child, first, low}
-use Rattle.volume.specs.KeyLaws.{low_pos}
+use Rattle.volume.proofs.KeyLaws.{low_pos}
 use Rattle.volume.specs.Files.{len, spot, present, above, below, least, link, link_test, tail_test, linked}
 use Rattle.volume.specs.declared.Partition.{Partition}
-use Rattle.volume.specs.Index.{span_at, span_of, present_low, present_high, spot_home}
-use Rattle.volume.specs.Order.{Next, prev_one, least_is, least_present, above_below, above_next, below_prev}
-use Rattle.volume.specs.Closed.{stays, up_stays, nearest, next_key, nearest_in, entries_of, entry_asked}
-use Rattle.volume.specs.Steps.{every_no, Passed, pass_next, pass_fails, pass_end}
+use Rattle.volume.proofs.Index.{span_at, span_of, present_low, present_high, spot_home}
+use Rattle.volume.proofs.Order.{Next, prev_one, least_is, least_present, above_below, above_next, below_prev}
+use Rattle.volume.specs.Closed.{stays, nearest, next_key, entries_of}
+use Rattle.volume.proofs.Closed.{up_stays, nearest_in, entry_asked}
+use Rattle.volume.proofs.Steps.{every_no, Passed, pass_next, pass_fails, pass_end}
 use Rattle.inspect.specs.Parts.{Opened}
 use Rattle.inspect.proofs.Laws.{opened_few, opened_read, read_is, read_bits}
 use Rattle.links.proofs.Laws.{key_pos, first_is, next_is, link_nil, link_is}

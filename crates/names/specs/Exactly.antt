@@ -16,8 +16,8 @@ use Rattle.volume.specs.Answers.{partition, lowest_malformed}
 use Rattle.volume.specs.Names.{name_length, good_length, good_name, broken, fault_at, first_broken, name_answer}
 use Rattle.volume.specs.Plans.{describe_plan}
 use Rattle.volume.specs.Calls.{refuse, finish, lending, lent_text, unmarred, through, describe_in, planned, describe}
-use Rattle.volume.specs.Reads.{in_part}
-use Rattle.volume.specs.Steps.{lowest_passes}
+use Rattle.volume.proofs.Readings.{in_part}
+use Rattle.volume.proofs.Steps.{lowest_passes}
 use Rattle.volume.specs.declared.Found.{Found}
 use Rattle.volume.specs.declared.Found.TheVariants.{At, Nothing}
 use Rattle.volume.specs.declared.Lent.{Lent}

@@ -8,8 +8,8 @@ use Rattle.std.proofs.Math.Dec.{eqb}
 use borrow.Author.Tests.{le-ltb, lt-ltb, le-leb, lt-leb, leb-true, eq-eqb, ne_eqb, not-true, not-false}
 use Rattle.base.specs.Tests.{pick, both}
 use Rattle.base.specs.Laws.{all_of, both_right}
-use Rattle.volume.specs.Steps.{all_no, both_no_2, lowest_at, lowest_passes, Searching, search_starts_as}
-use Rattle.volume.specs.Reads.{lowest_none}
+use Rattle.volume.proofs.Steps.{all_no, both_no_2, lowest_at, lowest_passes, Searching, search_starts_as}
+use Rattle.volume.proofs.Readings.{lowest_none}
 use Rattle.volume.specs.declared.Found.TheVariants.{At, Nothing}
 use Rattle.volume.specs.Names.{name_length, character, has, spells, control, reserved, final, dots, broken, good_length, good_name, first_broken}
 

@@ -12,6 +12,7 @@ use Rattle.volume.specs.declared.Outcome.{Outcome}
 use Rattle.volume.specs.declared.Outcome.TheVariants.{Done, Absent, Refused}
 use Rattle.crash.specs.Statement.{Image, Proper, is_done, Accepted, whole, SameFile, named}
 use Rattle.crash.specs.Answering as inner
+use Rattle.crash.proofs.Answering as proved
 use Rattle.perq.specs.Flat.{flat, Changed}
 use Rattle.perq.specs.declared.PerqAnswer.{PerqAnswer}
 
@@ -87,7 +88,7 @@ pub never_refused : (d s : ℕ) (l m : List ℕ) → Image l → (a : PerqAnswer
     → (limit' : ℕ) (r' : PerqAnswer) (l'' : List ℕ) → Changed limit' (planned d l' s repair) l' l'' r' → r'.outcome ≡ 0
 never_refused d s l m b a k o h c p limit r m₁ x l' y limit' r' l'' x' =
     ap (λ (z : PerqAnswer). z.outcome) x'.answers
-    ∙ done_zero _ (planned d l' s repair).outcome (inner.never_refused d s l m b (passed d s l a k o) (calls_below h) c p limit _ m₁ (answered x) l' (repairs_below y) limit' _ l'' (answered x'))
+    ∙ done_zero _ (planned d l' s repair).outcome (proved.never_refused d s l m b (passed d s l a k o) (calls_below h) c p limit _ m₁ (answered x) l' (repairs_below y) limit' _ l'' (answered x'))
 
 -- and one that is let make all its stores ends as demand 3 says
 pub demand_3_in_calls : (d s : ℕ) (l m : List ℕ) → Image l → (a : PerqAnswer) → Checked d s l a → a.outcome ≡ 0 → Called d s l m → (c : Call) → Proper c
@@ -102,7 +103,7 @@ demand_3_in_calls d s l m b a k o h c p limit r m₁ x l' y limit' r' l'' all x'
 }
   where
     z : inner.Outlives d s m c (below limit (planned d m s c)) l'' (below limit' (planned d l' s repair))
-    z = inner.demand_3_in_calls d s l m b (passed d s l a k o) (calls_below h) c p limit _ m₁ (answered x) l' (repairs_below y) limit' _ l'' all (answered x')
+    z = proved.demand_3_in_calls d s l m b (passed d s l a k o) (calls_below h) c p limit _ m₁ (answered x) l' (repairs_below y) limit' _ l'' all (answered x')
 
     made : r.made ≡ length (take limit (planned d m s c).list)
     made = ap (λ (q : PerqAnswer). q.made) x.answers ∙ flat_made _ (planned d m s c).outcome

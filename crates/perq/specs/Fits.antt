@@ -16,10 +16,10 @@ use Rattle.image.specs.Saves.{words}
 use Rattle.volume.specs.Files.{partition_of, candidate, well_formed, is_file, is_malformed, owned, sound, block_at, len, name, free_head, free, unowned}
 use Rattle.volume.specs.declared.Partition.{Partition}
 use Rattle.volume.specs.Keys.{reach}
-use Rattle.volume.specs.KeyLaws.{first_data}
-use Rattle.volume.specs.Index.{wf_of, member}
-use Rattle.volume.specs.Reads.{in_part, lies, inside_of, candidate_in}
-use Rattle.volume.specs.Steps.{lowest_at}
+use Rattle.volume.proofs.KeyLaws.{first_data}
+use Rattle.volume.proofs.Index.{wf_of, member}
+use Rattle.volume.proofs.Readings.{in_part, lies, inside_of, candidate_in}
+use Rattle.volume.proofs.Steps.{lowest_at}
 use Rattle.volume.specs.Answers.{partition, in_partition, lowest, lowest_malformed, file_above, found_file, next_file, tallied, check_clean, check_in, checked, of_file, show_in, shown, either_of, shown_pair, read_from, plain, described_as, extract_in, extracted}
 use Rattle.volume.specs.Calls.{Planned, refuse, lending, lent_block, lent_text, unmarred, through, create_in, append_in, write_in, describe_in, destroy_in, repair_in, planned, Answered, Call, create, write, describe, destroy, repair}
 use Rattle.volume.specs.Writes.{needs}

@@ -5,7 +5,7 @@ use Rattle.base.specs.Tests.{pick, both}
 use Rattle.base.specs.declared.Refusal.TheVariants.{BadBuffer}
 use Rattle.volume.specs.Files.{partition_of}
 use Rattle.volume.specs.declared.Partition.{Partition}
-use Rattle.volume.specs.Reads.{in_part, lies}
+use Rattle.volume.proofs.Readings.{in_part, lies}
 use Rattle.volume.specs.declared.Found.{Found}
 use Rattle.volume.specs.declared.Found.TheVariants.{At, Nothing}
 use Rattle.directory.specs.Directory.{selected, is_rule, root_of, look_from, looked_as, look_root, look_in, look_up, tree, walked, fitting, most_rows, walked_as, refused_tree, tree_root, tree_in, treed}

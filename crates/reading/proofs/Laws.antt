@@ -12,7 +12,7 @@ use Rattle.image.proofs.Laws.{span}
 use Rattle.image.specs.Image.{view}
 use Rattle.volume.specs.Files.{partition_of, candidate}
 use Rattle.volume.specs.Answers.{partition, read_from, described_as}
-use Rattle.volume.specs.Reads.{lies, candidate_in}
+use Rattle.volume.proofs.Readings.{lies, candidate_in}
 use Rattle.volume.specs.declared.Part.{Part}
 use Rattle.volume.specs.declared.Part.TheVariants.{Good}
 use Rattle.volume.specs.declared.Part.TheVariants as part

@@ -16,10 +16,10 @@ use Rattle.blocks.specs.Records.{pib_record}
 use Rattle.volume.specs.Files.{owned, unowned}
 use Rattle.volume.specs.declared.Partition.{Partition}
 use Rattle.volume.specs.Answers.{Unmarred}
-use Rattle.volume.specs.Frame.{Clean, Formed, formed, agree_clean, agree_owned, agree_unowned, of_clean, clean_of}
+use Rattle.volume.proofs.Frame.{Clean, Formed, formed, agree_clean, agree_owned, agree_unowned, of_clean, clean_of}
 use Rattle.volume.specs.Plans.{st, stores, repaired, repaired_pib, repair_plan, repair_stores}
-use Rattle.frame.specs.Repair.{mid_agree}
-use Rattle.frame.specs.Restart.{Part, start, hits, hits_tab_in, repaired_same, target_same, target_pib}
+use Rattle.frame.proofs.Repair.{mid_agree}
+use Rattle.frame.proofs.Restart.{Part, start, hits, hits_tab_in, repaired_same, target_same, target_pib}
 use Rattle.repair.specs.declared.Progress.{Progress}
 use Rattle.blocks.specs.Ready.{Ready}
 use Rattle.blocks.specs.Standing.{Standing, stand_starts, stand_last, stand_many}

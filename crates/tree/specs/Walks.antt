@@ -9,7 +9,7 @@ use native.Mathlib.Omega.{arith}
 use Rattle.base.specs.Tests.{pick}
 use Rattle.base.specs.declared.Refusal.TheVariants.{TooDeep}
 use Rattle.image.specs.Image.{view}
-use Rattle.volume.specs.Steps.{more, none}
+use Rattle.volume.proofs.Steps.{more, none}
 use Rattle.volume.specs.Files.{len}
 use Rattle.volume.specs.declared.Partition.{Partition}
 use Rattle.volume.specs.declared.Outcome.TheVariants.{Done, Refused}

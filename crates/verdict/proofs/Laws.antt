@@ -13,7 +13,7 @@ use Rattle.image.specs.Image.{view}
 use Rattle.image.specs.Stores.{stored}
 use Rattle.volume.specs.Files.{partition_of}
 use Rattle.volume.specs.Plans.{stores, repair_plan, repair_stores}
-use Rattle.volume.specs.Reads.{lies}
+use Rattle.volume.proofs.Readings.{lies}
 use Rattle.volume.specs.Answers.{partition, checked}
 use Rattle.volume.specs.Calls.{Planned, planned, repair, Answered}
 use Rattle.volume.specs.declared.Answer.{Answer}

@@ -12,7 +12,7 @@ use Rattle.image.specs.Image.{view}
 use Rattle.image.specs.Stores.{stored}
 use Rattle.volume.specs.Files.{partition_of, unowned}
 use Rattle.volume.specs.Plans.{repair_plan}
-use Rattle.volume.specs.Reads.{in_part}
+use Rattle.volume.proofs.Readings.{in_part}
 use Rattle.volume.specs.Answers.{partition, checked, lowest_malformed}
 use Rattle.volume.specs.Calls.{Planned, refuse, finish, unmarred, repair_in, planned, repair}
 use Rattle.volume.specs.declared.Found.{Found}

@@ -8,7 +8,7 @@ use lib.ListN.{length}
 use borrow.Author.Tests.{lt-ltb}
 use Rattle.base.specs.Tests.{pick, every, all, count, last_of, head_of}
 use Rattle.image.specs.View.{View}
-use Rattle.volume.specs.Steps.{every_no}
+use Rattle.volume.proofs.Steps.{every_no}
 use Rattle.volume.specs.Files.{inside, within, chain, chained, free, free_head, once_test, free_sound}
 use Rattle.volume.specs.declared.Partition.{Partition}
 use Rattle.verify.specs.Walks.{walk, walked, named, free_at}

@@ -16,8 +16,8 @@ use Rattle.base.specs.Laws.{both_of, both_left, both_right, both_true}
 use Rattle.volume.specs.Words.{next_at, previous_at}
 use Rattle.volume.specs.Files.{inside, owned, within, chain, chained}
 use Rattle.volume.specs.declared.Partition.{Partition}
-use Rattle.volume.specs.Reads.{inside_of, or_pda}
-use Rattle.volume.specs.Steps.{more, none, both_no, both_no_2}
+use Rattle.volume.proofs.Readings.{inside_of, or_pda}
+use Rattle.volume.proofs.Steps.{more, none, both_no, both_no_2}
 use Rattle.verify.specs.Walks.{onward, step_at, walk}
 use Rattle.verify.specs.declared.Step.{Step}
 use Rattle.verify.specs.declared.Step.TheVariants.{Bad, End, On}

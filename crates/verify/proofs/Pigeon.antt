@@ -15,8 +15,8 @@ use Rattle.image.specs.View.{View}
 use Rattle.base.specs.Laws.{both_of, both_left, both_right, all_of}
 use Rattle.volume.specs.Files.{once_test, inside, owned, within}
 use Rattle.volume.specs.declared.Partition.{Partition}
-use Rattle.volume.specs.Reads.{or_pda, all_inside}
-use Rattle.frame.specs.FreeChain.{length_sum, length_unowned}
+use Rattle.volume.proofs.Readings.{or_pda, all_inside}
+use Rattle.frame.proofs.FreeChain.{length_sum, length_unowned}
 use Rattle.verify.specs.Walks.{free_at}
 use Rattle.verify.proofs.Free.{Fine, none_owned, fine_next, fine_here, fine_rest}
 

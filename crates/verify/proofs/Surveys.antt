@@ -11,11 +11,12 @@ use Rattle.image.specs.View.{View}
 use Rattle.volume.specs.Files.{block_at, candidate, well_formed, linked, is_file, len, size, file_test, owned, free_sound, sound}
 use Rattle.volume.specs.declared.Partition.{Partition}
 use Rattle.volume.specs.Answers.{lowest_malformed, Unmarred, check_in, tallied}
-use Rattle.volume.specs.Index.{wf_of}
-use Rattle.volume.specs.Closed.{size_of, nearest_in, size_closed}
+use Rattle.volume.proofs.Index.{wf_of}
+use Rattle.volume.specs.Closed.{size_of}
+use Rattle.volume.proofs.Closed.{nearest_in, size_closed}
 use Rattle.frame.specs.Needed.{needs, needed, owned_needed}
 use Rattle.frame.specs.Sound.{tested}
-use Rattle.volume.specs.Steps.{both_no}
+use Rattle.volume.proofs.Steps.{both_no}
 use Rattle.volume.specs.declared.Found.{Found}
 use Rattle.volume.specs.declared.Found.TheVariants.{At, Nothing}
 use Rattle.volume.specs.declared.Outcome.TheVariants.{Done, Refused}
@@ -26,7 +27,7 @@ use Rattle.verify.specs.declared.Standing.{Standing}
 use Rattle.verify.specs.declared.Standing.TheVariants as stands
 use Rattle.verify.specs.declared.Survey.{Survey}
 use Rattle.verify.specs.declared.Survey.TheVariants as found
-use Rattle.volume.specs.Frame.{of_clean}
+use Rattle.volume.proofs.Frame.{of_clean}
 
 -- a standing, by its test, and back
 abbrev told : Bool → ℕ → Standing

@@ -9,12 +9,7 @@ pub mod Plans
 pub mod Writes
 pub mod Calls
 pub mod Edges
-pub mod KeyLaws
-pub mod Index
-pub mod Order
-pub mod Frame
 pub mod Closed
-pub mod Steps
 pub mod Reads
 pub mod Layout
 pub mod Table

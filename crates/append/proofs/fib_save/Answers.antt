@@ -1,7 +1,7 @@
 use mathlib.Core.Path.{ap, ◌∙◌}
 use native.Mathlib.Omega.{arith}
 use Rattle.volume.specs.Keys.{low}
-use Rattle.volume.specs.KeyLaws.{number_small}
+use Rattle.volume.proofs.KeyLaws.{number_small}
 use Rattle.volume.specs.Writes.{counted}
 use Rattle.growth.specs.Afterwards.{home_there}
 use Rattle.inspect.proofs.Signs.{passed_word, passed_fits}

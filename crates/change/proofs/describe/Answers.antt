@@ -1,5 +1,5 @@
 use Rattle.volume.specs.Calls.{planned}
-use Rattle.volume.specs.Reads.{fine_text}
+use Rattle.volume.proofs.Readings.{fine_text}
 use Rattle.change.specs.Gate.{gate_at, gate_opens, enters, shut}
 use Rattle.change.proofs.Laws.{answered_not, answered_as}
 use borrow.Author.Rules.{rules}

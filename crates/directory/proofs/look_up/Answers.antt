@@ -1,5 +1,5 @@
 use mathlib.Core.Path.{sym, ◌∙◌}
-use Rattle.volume.specs.Reads.{lies}
+use Rattle.volume.proofs.Readings.{lies}
 use Rattle.directory.specs.Directory as defs
 use borrow.Author.Rules.{rules}
 use Rattle.directory.proofs.look_up.Goals as goal

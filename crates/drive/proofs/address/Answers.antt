@@ -1,7 +1,7 @@
 use mathlib.Core.Path.{sym, ◌∙◌}
 use borrow.Author.Rules.{rules}
 use Rattle.drive.specs.Fits.{lda_small}
-use Rattle.drive.specs.Names.{address_kept, address_new}
+use Rattle.drive.proofs.Names.{address_kept, address_new}
 use Rattle.drive.proofs.address.Goals as goal
 
 pub returns-then-is_lda : goal.returns-then-is_lda

@@ -1,6 +1,6 @@
 use mathlib.Core.Path.{sym, ◌∙◌}
 use Rattle.volume.specs.Answers.{extracted}
-use Rattle.volume.specs.Reads.{lies}
+use Rattle.volume.proofs.Readings.{lies}
 use Rattle.extract.specs.Into.{extracted_into}
 use borrow.Author.Rules.{rules}
 use Rattle.extract.proofs.extract.Goals as goal

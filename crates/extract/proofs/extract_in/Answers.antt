@@ -2,7 +2,7 @@ use mathlib.Core.Path.{sym, ap, ◌∙◌}
 use Prim.Native.Nat.{ℕ}
 use borrow.Author.Tests.{eq-eqb, ne_eqb, not-true, not-false}
 use Rattle.volume.specs.Answers.{extract_in}
-use Rattle.volume.specs.Reads.{candidate_in}
+use Rattle.volume.proofs.Readings.{candidate_in}
 use Rattle.volume.specs.declared.Outcome.TheVariants.{Done}
 use Rattle.inspect.proofs.Laws.{wf_opened, opened_len}
 use borrow.Author.Rules.{rules}

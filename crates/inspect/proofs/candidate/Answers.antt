@@ -2,7 +2,7 @@ use mathlib.Core.Path.{sym, ◌∙◌}
 use borrow.Author.Tests.{lt-ltb, le-ltb, le-leb, lt-leb, not-true, not-false}
 use Rattle.base.specs.Tests.{both, every}
 use Rattle.volume.specs.Files.{inside, candidate}
-use Rattle.volume.specs.Steps.{every_no, both_no, both_no_2, and_true}
+use Rattle.volume.proofs.Steps.{every_no, both_no, both_no_2, and_true}
 use borrow.Author.Rules.{rules}
 use Rattle.inspect.proofs.candidate.Goals as goal
 

@@ -3,7 +3,7 @@ use native.Mathlib.Omega.{arith}
 use borrow.Author.Tests.{eq-eqb, ne_eqb, lt-ltb, le-ltb, le-leb, lt-leb}
 use Rattle.base.specs.Tests.{every}
 use Rattle.volume.specs.Answers.{image_good}
-use Rattle.volume.specs.Steps.{every_no, and_true}
+use Rattle.volume.proofs.Steps.{every_no, and_true}
 use borrow.Author.Rules.{rules}
 use Rattle.inspect.proofs.image_good.Goals as goal
 

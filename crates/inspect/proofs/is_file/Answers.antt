@@ -1,7 +1,7 @@
 use mathlib.Core.Path.{sym, ◌∙◌}
 use Rattle.base.specs.Tests.{both}
 use Rattle.volume.specs.Files.{is_file}
-use Rattle.volume.specs.Reads.{candidate_in}
+use Rattle.volume.proofs.Readings.{candidate_in}
 use borrow.Author.Rules.{rules}
 use Rattle.inspect.proofs.is_file.Goals as goal
 

@@ -3,7 +3,7 @@ use native.Mathlib.Omega.{arith}
 use Rattle.image.specs.Image.{view}
 use Rattle.volume.specs.Files.{is_malformed}
 use Rattle.volume.specs.Answers.{lowest_malformed}
-use Rattle.volume.specs.Steps.{Searching, search_starts_as, searches}
+use Rattle.volume.proofs.Steps.{Searching, search_starts_as, searches}
 use Rattle.inspect.proofs.lowest_malformed.Given as goal
 
 abbrev pub invariant-loop-f : goal.invariant-loop-f

@@ -3,7 +3,7 @@ use borrow.Author.Tests.{lt-ltb, le-ltb, le-leb, lt-leb, not-true, not-false}
 use Rattle.base.specs.Tests.{every}
 use Rattle.drive.specs.Address.{lda_block}
 use Rattle.volume.specs.Answers.{part_good, end_of}
-use Rattle.volume.specs.Steps.{every_no, and_true}
+use Rattle.volume.proofs.Steps.{every_no, and_true}
 use borrow.Author.Rules.{rules}
 use Rattle.inspect.proofs.part_good.Goals as goal
 

@@ -2,7 +2,7 @@ use mathlib.Core.Path.{sym, ◌∙◌}
 use native.Mathlib.Omega.{arith}
 use borrow.Author.Tests.{not-true, not-false}
 use Rattle.volume.specs.Answers.{end_of, partition}
-use Rattle.volume.specs.Reads.{image_blocks, part_start}
+use Rattle.volume.proofs.Readings.{image_blocks, part_start}
 use borrow.Author.Rules.{rules}
 use Rattle.inspect.proofs.partition.Goals as goal
 

@@ -4,7 +4,7 @@ use Rattle.base.specs.Tests.{both}
 use Rattle.image.specs.View.{pair}
 use Rattle.image.specs.Image.{view}
 use Rattle.volume.specs.Words.{previous_at}
-use Rattle.volume.specs.Steps.{ne_of, eq_of}
+use Rattle.volume.proofs.Steps.{ne_of, eq_of}
 use borrow.Author.Rules.{rules}
 use Rattle.links.proofs.link_good.Goals as goal
 

@@ -6,7 +6,7 @@ use Rattle.base.specs.Tests.{pick}
 use Rattle.image.specs.Image.{view}
 use Rattle.volume.specs.Files.{is_file}
 use Rattle.volume.specs.Answers.{file_above}
-use Rattle.volume.specs.Steps.{Searching, search_starts_as, searches, lowest_nothing}
+use Rattle.volume.proofs.Steps.{Searching, search_starts_as, searches, lowest_nothing}
 use Rattle.listing.proofs.file_above.Goals as goal
 
 pub returns-then-p-a : goal.returns-then-p-a

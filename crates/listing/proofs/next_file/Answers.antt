@@ -1,6 +1,6 @@
 use mathlib.Core.Path.{sym, ◌∙◌}
 use Rattle.volume.specs.Answers.{partition, next_file}
-use Rattle.volume.specs.Reads.{lies}
+use Rattle.volume.proofs.Readings.{lies}
 use borrow.Author.Rules.{rules}
 use Rattle.listing.proofs.next_file.Goals as goal
 

@@ -4,7 +4,7 @@ use Prim.Native.Nat.{◌-◌}
 use native.Mathlib.Omega.{arith}
 use lib.Dec.{eqb}
 use Rattle.volume.specs.Names.{broken, first_broken}
-use Rattle.volume.specs.Steps.{Searching, search_hit, search_next, searches}
+use Rattle.volume.proofs.Steps.{Searching, search_hit, search_next, searches}
 use Rattle.names.specs.Laws.{breaks, keeps, starts}
 use Rattle.names.proofs.first_broken.Given as goal
 

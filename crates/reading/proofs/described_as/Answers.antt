@@ -1,7 +1,7 @@
 use mathlib.Core.Path.{sym, ◌∙◌}
 use borrow.Author.Tests.{eq-eqb, ne_eqb, not-true, not-false}
 use Rattle.volume.specs.Answers.{described_as}
-use Rattle.volume.specs.Reads.{lies, candidate_in}
+use Rattle.volume.proofs.Readings.{lies, candidate_in}
 use borrow.Author.Rules.{rules}
 use Rattle.reading.proofs.described_as.Goals as goal
 

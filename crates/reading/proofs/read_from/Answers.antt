@@ -1,7 +1,7 @@
 use mathlib.Core.Path.{sym, ◌∙◌}
 use borrow.Author.Tests.{eq-eqb, ne_eqb}
 use Rattle.volume.specs.Answers.{read_from}
-use Rattle.volume.specs.Reads.{lies}
+use Rattle.volume.proofs.Readings.{lies}
 use borrow.Author.Rules.{rules}
 use Rattle.reading.proofs.read_from.Goals as goal
 

@@ -1,7 +1,7 @@
 use mathlib.Core.Path.{sym, ◌∙◌}
 use borrow.Author.Rules.{rules}
 use Rattle.repair.specs.Answer.{answered_not, refused_part, refused_malformed, planned_in}
-use Rattle.volume.specs.Reads.{lies}
+use Rattle.volume.proofs.Readings.{lies}
 use Rattle.repair.proofs.repair.Goals as goal
 
 pub lowest_malformed-x-requires : goal.lowest_malformed-x-requires

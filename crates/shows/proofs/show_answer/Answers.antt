@@ -1,6 +1,6 @@
 use mathlib.Core.Path.{sym, ◌∙◌}
 use Rattle.volume.specs.Answers.{partition, shown}
-use Rattle.volume.specs.Reads.{lies}
+use Rattle.volume.proofs.Readings.{lies}
 use borrow.Author.Rules.{rules}
 use Rattle.shows.proofs.show_answer.Goals as goal
 

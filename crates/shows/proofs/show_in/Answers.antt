@@ -2,7 +2,7 @@ use mathlib.Core.Path.{sym, ◌∙◌}
 use borrow.Author.Tests.{lt-ltb, le-ltb, not-true, not-false}
 use Rattle.volume.specs.Keys.{reach}
 use Rattle.volume.specs.Answers.{show_in}
-use Rattle.volume.specs.Reads.{candidate_in}
+use Rattle.volume.proofs.Readings.{candidate_in}
 use Rattle.inspect.proofs.Laws.{wf_opened, opened_len}
 use borrow.Author.Rules.{rules}
 use Rattle.shows.proofs.show_in.Goals as goal

@@ -1,6 +1,6 @@
 use mathlib.Core.Path.{sym, ◌∙◌}
 use borrow.Author.Rules.{rules}
-use Rattle.volume.specs.Reads.{lies}
+use Rattle.volume.proofs.Readings.{lies}
 use Rattle.directory.specs.Directory as defs
 use Rattle.tree.specs.Items.{lay_none}
 use Rattle.tree.proofs.tree.Goals as goal

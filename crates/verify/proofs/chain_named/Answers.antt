@@ -2,7 +2,7 @@ use mathlib.Core.Path.{sym, ap, ◌∙◌}
 use borrow.Author.Tests.{not-true, not-false}
 use Rattle.base.specs.Tests.{every}
 use Rattle.drive.specs.Address.{lda_block}
-use Rattle.volume.specs.Steps.{every_no, and_true}
+use Rattle.volume.proofs.Steps.{every_no, and_true}
 use Rattle.verify.specs.Walks.{named}
 use borrow.Author.Rules.{rules}
 use Rattle.verify.proofs.chain_named.Goals as goal

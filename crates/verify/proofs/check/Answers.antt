@@ -1,7 +1,7 @@
 use mathlib.Core.Path.{sym, ◌∙◌}
 use borrow.Author.Rules.{rules}
 use Rattle.volume.specs.Answers.{checked}
-use Rattle.volume.specs.Reads.{lies}
+use Rattle.volume.proofs.Readings.{lies}
 use Rattle.verify.proofs.check.Goals as goal
 
 pub check_in-requires : goal.check_in-requires

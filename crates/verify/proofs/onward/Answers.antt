@@ -1,7 +1,7 @@
 use native.Mathlib.Omega.{arith}
 use borrow.Author.Rules.{rules}
 use borrow.Author.Tests.{eq-eqb, ne_eqb}
-use Rattle.volume.specs.Reads.{of_inside}
+use Rattle.volume.proofs.Readings.{of_inside}
 use Rattle.verify.specs.Walks.{onward}
 use Rattle.verify.proofs.Free.{low_out, high_out, onward_by}
 use Rattle.verify.proofs.onward.Goals as goal

@@ -1,6 +1,6 @@
 use mathlib.Core.Path.{sym, ◌∙◌}
 use borrow.Author.Tests.{not-true, not-false}
-use Rattle.volume.specs.Steps.{both_no, both_no_2}
+use Rattle.volume.proofs.Steps.{both_no, both_no_2}
 use Rattle.inspect.proofs.Laws.{wf_opened, opened_len}
 use Rattle.verify.proofs.Surveys.{stands_faulty, stands_file}
 use borrow.Author.Rules.{rules}

@@ -2,7 +2,7 @@ use mathlib.Core.Path.{refl, sym, ◌∙◌}
 use native.Mathlib.Omega.{arith}
 use Rattle.image.specs.View.{pair}
 use Rattle.volume.specs.Files.{owned}
-use Rattle.volume.specs.Steps.{ne_of, eq_of}
+use Rattle.volume.proofs.Steps.{ne_of, eq_of}
 use Rattle.verify.specs.Walks.{onward, step_at}
 use borrow.Author.Rules.{rules}
 use Rattle.verify.proofs.step_at.Goals as goal

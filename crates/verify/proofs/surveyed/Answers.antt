@@ -5,7 +5,7 @@ use native.Mathlib.Numerals.{add-one}
 use borrow.Author.Rules.{rules}
 use borrow.Author.Tests.{not-true, not-false}
 use Rattle.image.specs.Image.{view}
-use Rattle.volume.specs.Reads.{candidate_in}
+use Rattle.volume.proofs.Readings.{candidate_in}
 use Rattle.verify.proofs.Surveys.{Passed, pass_starts, pass_other, pass_file, pass_faulty, pass_ends, file_short}
 use Rattle.verify.proofs.surveyed.Goals as goal
 

@@ -5,7 +5,7 @@ use Rattle.base.specs.Tests.{both}
 use Rattle.drive.specs.Address.{lda_block}
 use Rattle.image.specs.View.{pair}
 use Rattle.volume.specs.Files.{inside}
-use Rattle.volume.specs.Steps.{both_no, both_no_2}
+use Rattle.volume.proofs.Steps.{both_no, both_no_2}
 use Rattle.verify.specs.Walks.{walked}
 use borrow.Author.Rules.{rules}
 use Rattle.verify.proofs.walked.Goals as goal

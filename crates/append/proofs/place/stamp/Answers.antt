@@ -1,4 +1,4 @@
-use Rattle.volume.specs.KeyLaws.{number_small}
+use Rattle.volume.proofs.KeyLaws.{number_small}
 use Rattle.volume.specs.Writes.{empty}
 use Rattle.growth.specs.Afterwards.{present_new}
 use Rattle.inspect.proofs.Signs.{passed_word, passed_fits}

@@ -1,6 +1,6 @@
 use Rattle.directory.specs.Entries.{sames, same_at, same_next}
 use Prim.Native.Nat.{◌-◌}
-use Rattle.volume.specs.Steps.{Passed}
+use Rattle.volume.proofs.Steps.{Passed}
 use Rattle.directory.specs.Directory.{same_name}
 use Rattle.directory.proofs.entry.same.Goals as goal
 

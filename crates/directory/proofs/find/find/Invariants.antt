@@ -1,6 +1,6 @@
 use Prim.Native.Nat.{◌+◌, ◌-◌, ◌*◌, ◌≤◌}
 use native.Mathlib.Omega.{arith}
-use Rattle.volume.specs.Steps.{Searching, search_end}
+use Rattle.volume.proofs.Steps.{Searching, search_end}
 use Rattle.directory.specs.Directory as defs
 use Rattle.directory.specs.Paths.{find_starts, find_to, find_hit, find_next}
 use Rattle.inspect.proofs.Laws.{opened_len}

@@ -1,6 +1,6 @@
 use mathlib.Core.Path.{sym, ◌∙◌}
 use borrow.Author.Tests.{not-true, not-false}
-use Rattle.volume.specs.Steps.{every_no}
+use Rattle.volume.proofs.Steps.{every_no}
 use Rattle.inspect.specs.Form.{nils_good}
 use Rattle.inspect.proofs.Ways.{every_last}
 use borrow.Author.Rules.{rules}

@@ -1,9 +1,9 @@
 use mathlib.Core.Path.{sym, ◌∙◌}
 use native.Mathlib.Omega.{arith}
 use borrow.Author.Tests.{not-true, not-false}
-use Rattle.volume.specs.Steps.{every_no, ne_of, eq_of}
+use Rattle.volume.proofs.Steps.{every_no, ne_of, eq_of}
 use Rattle.inspect.specs.Form.{numbers_good}
-use Rattle.volume.specs.KeyLaws.{number_small}
+use Rattle.volume.proofs.KeyLaws.{number_small}
 use Rattle.inspect.proofs.Signs.{passed_word, passed_fits}
 use Rattle.inspect.proofs.Laws.{read_last, read_low}
 use Rattle.inspect.proofs.Ways.{every_last}

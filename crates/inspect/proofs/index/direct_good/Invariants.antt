@@ -1,7 +1,7 @@
 use Prim.Native.Nat.{◌-◌}
 use Rattle.base.specs.Tests.{all}
 use Rattle.image.specs.Image.{view}
-use Rattle.volume.specs.Steps.{passes, Passed}
+use Rattle.volume.proofs.Steps.{passes, Passed}
 use Rattle.inspect.specs.Form.{data_test}
 use Rattle.inspect.proofs.index.direct_good.Given as goal
 

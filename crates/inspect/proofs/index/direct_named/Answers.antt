@@ -1,5 +1,5 @@
 use mathlib.Core.Path.{sym, ◌∙◌}
-use Rattle.volume.specs.KeyLaws.{number_small}
+use Rattle.volume.proofs.KeyLaws.{number_small}
 use Rattle.inspect.proofs.Signs.{passed_word, passed_fits}
 use Rattle.inspect.proofs.Laws.{named_direct}
 use borrow.Author.Rules.{rules}

@@ -2,7 +2,7 @@ use Prim.Native.Nat.{◌-◌}
 use native.Mathlib.Omega.{arith}
 use Rattle.base.specs.Tests.{all}
 use Rattle.image.specs.Image.{view}
-use Rattle.volume.specs.Steps.{passes, Passed}
+use Rattle.volume.proofs.Steps.{passes, Passed}
 use Rattle.inspect.specs.Form.{double_test}
 use Rattle.inspect.proofs.Ways.{double_held}
 use Rattle.inspect.proofs.index.doubles_good.Goals as goal

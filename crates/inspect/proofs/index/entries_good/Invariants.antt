@@ -5,8 +5,8 @@ use native.Mathlib.Omega.{arith}
 use borrow.Author.Tests.{not-true, not-false}
 use Rattle.image.specs.Image.{view}
 use Rattle.volume.specs.Keys.{low}
-use Rattle.volume.specs.Reads.{inside_of}
-use Rattle.volume.specs.Steps.{Indexed, index_starts, index_few_fails, index_enter, index_next, index_to, index_end, index_ptr_fails, index_data_fails}
+use Rattle.volume.proofs.Readings.{inside_of}
+use Rattle.volume.proofs.Steps.{Indexed, index_starts, index_few_fails, index_enter, index_next, index_to, index_end, index_ptr_fails, index_data_fails}
 use Rattle.inspect.specs.Form.{pointer_test, data_test, entries_good, named_member}
 use Rattle.inspect.proofs.Laws.{entry_is}
 use Rattle.inspect.proofs.Ways.{ptrs_few, ptrs_below, ptrs_enough, holder_in, least_reach}

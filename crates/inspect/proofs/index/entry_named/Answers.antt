@@ -1,4 +1,4 @@
-use Rattle.volume.specs.KeyLaws.{number_small}
+use Rattle.volume.proofs.KeyLaws.{number_small}
 use Rattle.inspect.proofs.Signs.{passed_word, passed_fits}
 use borrow.Author.Rules.{rules}
 use Rattle.inspect.proofs.index.entry_named.Goals as goal

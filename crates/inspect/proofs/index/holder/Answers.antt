@@ -1,7 +1,7 @@
 use native.Mathlib.Omega.{arith}
 use mathlib.Core.Path.{sym, ap, ◌∙◌}
 use Rattle.volume.specs.Files.{spot}
-use Rattle.volume.specs.KeyLaws.{up_far}
+use Rattle.volume.proofs.KeyLaws.{up_far}
 use Rattle.inspect.proofs.Laws.{held_near, spot_held}
 use borrow.Author.Rules.{rules}
 use Rattle.inspect.proofs.index.holder.Goals as goal

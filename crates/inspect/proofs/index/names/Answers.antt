@@ -1,9 +1,9 @@
 use mathlib.Core.Path.{refl, sym, ◌∙◌}
 use borrow.Author.Tests.{lt-ltb, le-ltb, le-leb, lt-leb}
 use Rattle.base.specs.Tests.{both, every}
-use Rattle.drive.specs.Names.{lda_here}
+use Rattle.drive.proofs.Names.{lda_here}
 use Rattle.volume.specs.Files.{inside}
-use Rattle.volume.specs.Steps.{every_no, both_no, both_no_2, ne_of, eq_of, and_true}
+use Rattle.volume.proofs.Steps.{every_no, both_no, both_no_2, ne_of, eq_of, and_true}
 use Rattle.inspect.specs.Form.{names}
 use Rattle.inspect.proofs.Signs.{self}
 use borrow.Author.Rules.{rules}

@@ -1,6 +1,6 @@
 use mathlib.Core.Path.{sym, ◌∙◌}
 use native.Mathlib.Omega.{arith}
-use Rattle.volume.specs.KeyLaws.{number_small}
+use Rattle.volume.proofs.KeyLaws.{number_small}
 use Rattle.inspect.proofs.Signs.{passed_word, passed_fits}
 use Rattle.inspect.proofs.Laws.{named_held}
 use borrow.Author.Rules.{rules}

@@ -1,6 +1,6 @@
 use native.Mathlib.Omega.{arith}
 use mathlib.Core.Path.{sym}
-use Rattle.volume.specs.KeyLaws.{first_pointer, first_doubles}
+use Rattle.volume.proofs.KeyLaws.{first_pointer, first_doubles}
 use borrow.Author.Rules.{rules}
 use Rattle.inspect.proofs.keys.first.Goals as goal
 

@@ -1,5 +1,5 @@
 use borrow.Author.Tests.{eq-eqb, ne_eqb}
-use Rattle.volume.specs.KeyLaws.{first_data}
+use Rattle.volume.proofs.KeyLaws.{first_data}
 use borrow.Author.Rules.{rules}
 use Rattle.inspect.proofs.keys.has_key.Goals as goal
 

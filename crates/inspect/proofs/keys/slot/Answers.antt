@@ -1,7 +1,7 @@
 use native.Mathlib.Omega.{arith}
 use borrow.Author.Tests.{lt-ltb, le-ltb}
 use Rattle.volume.specs.Keys.{slot}
-use Rattle.volume.specs.KeyLaws.{slot_far, slot_data}
+use Rattle.volume.proofs.KeyLaws.{slot_far, slot_data}
 use borrow.Author.Rules.{rules}
 use Rattle.inspect.proofs.keys.slot.Goals as goal
 

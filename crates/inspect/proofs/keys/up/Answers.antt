@@ -1,7 +1,7 @@
 use native.Mathlib.Omega.{arith}
 use borrow.Author.Tests.{lt-ltb, le-ltb}
 use Rattle.volume.specs.Keys.{up}
-use Rattle.volume.specs.KeyLaws.{up_data, up_far}
+use Rattle.volume.proofs.KeyLaws.{up_data, up_far}
 use borrow.Author.Rules.{rules}
 use Rattle.inspect.proofs.keys.up.Goals as goal
 

@@ -1,0 +1,9 @@
+pub mod Soft
+pub mod Turn
+pub mod Repair
+pub mod Restart
+pub mod Mended
+pub mod FreeChain
+pub mod Drawn
+pub mod Listed
+pub mod Decides

@@ -1,0 +1,7 @@
+pub mod KeyLaws
+pub mod Index
+pub mod Order
+pub mod Frame
+pub mod Closed
+pub mod Steps
+pub mod Readings
