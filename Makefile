@@ -1,6 +1,6 @@
 # Tapermoss: what a person builds and runs. `rt` (the Rattle toolchain) is expected on the PATH; whatever Debian
 # packages the rest needs, `make setup` installs, and every other target asks for it first. All that is built goes
-# under build/ (and target/, which is rt's own). tools/machine is for machines that are not x86-64, and does nothing on others.
+# under build/ (and crates/*/out/, which is rt's own). tools/machine is for machines that are not x86-64, and does nothing on others.
 
 # How long `make fuzz` runs.
 SECONDS ?= 60
@@ -25,7 +25,7 @@ setup:
 # The proved library, proved and built again when a file of it has changed.
 library: setup build/libperq.a
 
-build/libperq.a: crates.txt $(shell find crates 2>/dev/null)
+build/libperq.a: crates.txt $(shell find crates/*/src crates/*/specs crates/*/proofs 2>/dev/null)
 	@tools/library $@
 
 tool: library
@@ -56,4 +56,4 @@ fuzz: library
 	@tools/fuzz $(SECONDS)
 
 clean:
-	rm -rf build target
+	rm -rf build crates/*/out

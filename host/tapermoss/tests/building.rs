@@ -12,7 +12,8 @@ use std::process::{Child, Command, Output, Stdio};
 use std::thread::sleep;
 use std::time::{Duration, Instant, SystemTime};
 
-/// How each script begins: `await NAME` holds it until the test lets it go on, and a script that is forgotten gives up.
+/// How each script begins, which is called in crates/perq: `begin NAME` says what rt says of a crate that it begins to prove,
+/// `await NAME` holds the script until the test lets it go on, and one that is forgotten gives up.
 const BEGIN: &str = "#!/bin/sh
 await() {
   for i in $(seq 1000); do
@@ -21,13 +22,19 @@ await() {
   done
   exit 9
 }
-[ \"$*\" = 'staticlib perq' ] || exit 8
+begin() {
+  echo \"rt: chose --jobs 2 for $1\"
+}
+case \"$PWD:$*\" in
+  */crates/perq:lib) cd ../.. ;;
+  *) exit 8 ;;
+esac
 ";
 
 /// How a script ends that has built the library.
-const BUILT: &str = "mkdir -p target/staticlib
-echo 'an archive' >target/staticlib/libperq.a
-echo 'rt: target/staticlib/libperq.a has the functions of perq'
+const BUILT: &str = "mkdir -p crates/perq/out
+echo 'an archive' >crates/perq/out/libperq.a
+echo 'logic=proved functions=1'
 ";
 
 const FIRST: &str = "proving and building the library; build/library.log has what the prover says";
@@ -43,8 +50,8 @@ fn text(path: PathBuf) -> String {
 /// A folder with these crates, this rt and an old archive.
 fn folder(crates: &str, rt: &str) -> Folder {
     let folder = Folder::new();
-    for name in ["bin", "build"] {
-        fs::create_dir(folder.path(name)).expect("a new folder");
+    for name in ["bin", "build", "crates/perq"] {
+        fs::create_dir_all(folder.path(name)).expect("a new folder");
     }
     folder.put("crates.txt", crates.as_bytes());
     let program = folder.put("bin/rt", format!("{BEGIN}{rt}").as_bytes());
@@ -159,21 +166,23 @@ fn let_go(folder: &Folder, name: &str) {
     folder.put(&format!("go-{name}"), b"");
 }
 
-/// The order is rt's: drive, which has fewer crates below it, before volume, and image, which perq leads to first, before
-/// drive.
+/// The order is rt's: image, which volume needs, before it, and drive where the line of perq has it.
 #[test]
-fn crates_end_one_after_the_other() {
-    let crates = "# two of rt's own and one that perq does not need\nbase: libc\ndrive: base io\n\
-                  image: base # and a word\nvolume: image base\nbatch: volume\nperq: volume drive\n";
-    let rt = "for crate in base image drive volume perq; do
+fn crates_are_begun_one_after_the_other() {
+    let crates = "# one that perq does not need\nbase:\ndrive: base\nimage: base # and a word\n\
+                  volume: image base\nbatch: volume\nperq staticlib: volume drive\n";
+    let rt = "await rt
+for crate in base image volume drive perq; do
+  begin $crate
   await $crate
   echo \"fn $crate::begin: proved\"
-  [ $crate = perq ] || echo \"rt: $crate proved (2 s)\"
 done\n";
     let folder = folder(crates, &format!("{rt}{BUILT}"));
     let mut building = Building::start(&folder, "15", "0.05");
     building.says(FIRST);
-    for (left, name) in [(5, "base"), (4, "image"), (3, "drive"), (2, "volume"), (1, "perq")] {
+    building.says("rt has begun no proof yet; 5 of 5 crates left; TIME");
+    let_go(&folder, "rt");
+    for (left, name) in [(5, "base"), (4, "image"), (3, "volume"), (2, "drive"), (1, "perq")] {
         building.says(&format!("proving {name}; {left} of 5 crates left; TIME"));
         assert!(!folder.path("build/libperq.a").exists(), "an old archive, while {name} is proved");
         let_go(&folder, name);
@@ -182,43 +191,80 @@ done\n";
     assert_eq!(building.ends(), (Some(0), String::new()));
     assert_eq!(folder.read("build/libperq.a"), b"an archive\n");
     let log = String::from_utf8(folder.read("build/library.log")).expect("text");
-    assert!(log.starts_with("fn base::begin: proved\nrt: base proved (2 s)\nfn image::"), "{log}");
-    assert!(log.ends_with("\nrt: target/staticlib/libperq.a has the functions of perq\n"), "{log}");
+    let first =
+        "rt: chose --jobs 2 for base\nfn base::begin: proved\nrt: chose --jobs 2 for image\n";
+    assert!(log.starts_with(first), "{log}");
+    assert!(log.ends_with("\nfn perq::begin: proved\nlogic=proved functions=1\n"), "{log}");
 }
 
 #[test]
 fn it_speaks_again_while_nothing_ends() {
-    let folder = folder("base:\nperq: base\n", &format!("await all\n{BUILT}"));
+    let folder = folder("base:\nperq staticlib: base\n", &format!("await all\n{BUILT}"));
     let mut building = Building::start(&folder, "0.1", "0.03");
     building.says(FIRST);
     let mut times = 0;
     let mut text = String::from("; 0 s");
     while text.ends_with("; 0 s") && building.from.elapsed() < Duration::from_secs(9) {
         text = building.text().unwrap_or_default();
-        assert!(building.is(&text, "proving base; 2 of 2 crates left; TIME"), "{text}");
+        let expected = "rt has begun no proof yet; 2 of 2 crates left; TIME";
+        assert!(building.is(&text, expected), "{text}");
+        building.last = expected.to_string();
         times += 1;
     }
     assert!(!text.ends_with("; 0 s"), "its time stands still");
     assert!((2..=16).contains(&times), "{times} times in the first second");
     let_go(&folder, "all");
-    building.last = "proving base; 2 of 2 crates left; TIME".to_string();
     building.then_says("the library is proved and built: 2 crates in TIME");
     assert_eq!(building.ends().0, Some(0));
 }
 
+/// rt says nothing of them.
 #[test]
 fn crates_that_have_not_changed_are_counted() {
-    let line = "proved (unchanged since it was last proved)";
-    let rt = format!("await base\nprintf 'rt: base {line}\\nrt: image {line}\\n'\nawait perq\n");
-    let folder = folder("base:\nimage: base\nperq: image\n", &format!("{rt}{BUILT}"));
+    let rt = "await rt\nbegin perq\nawait perq\n";
+    let crates = "base:\nimage: base\nperq staticlib: image\n";
+    let folder = folder(crates, &format!("{rt}{BUILT}"));
     let mut building = Building::start(&folder, "15", "0.05");
     building.says(FIRST);
-    building.says("proving base; 3 of 3 crates left; TIME");
-    let_go(&folder, "base");
+    building.says("rt has begun no proof yet; 3 of 3 crates left; TIME");
+    let_go(&folder, "rt");
     building.says("proving perq; 1 of 3 crates left; TIME");
     let_go(&folder, "perq");
     building.says(
         "the library is proved and built: 3 crates in TIME, 2 of them unchanged since they were last proved",
+    );
+    assert_eq!(building.ends().0, Some(0));
+}
+
+/// In the same folder, and in another copy of the repository.
+#[test]
+fn a_wait_for_another_rt_is_told() {
+    let rt = "await rt
+echo \"rt: waiting for another rt to finish in $PWD/crates/base\" >&2
+await folder
+begin base
+await base
+echo 'rt: drive: another copy of the repository is building this library; waiting for it, to use its work' >&2
+await copy
+begin perq
+await perq\n";
+    let crates = "base:\ndrive: base\nperq staticlib: base drive\n";
+    let folder = folder(crates, &format!("{rt}{BUILT}"));
+    let mut building = Building::start(&folder, "15", "0.05");
+    building.says(FIRST);
+    building.says("rt has begun no proof yet; 3 of 3 crates left; TIME");
+    for (name, then) in [
+        ("rt", "waiting for another rt; TIME"),
+        ("folder", "proving base; 3 of 3 crates left; TIME"),
+        ("base", "waiting for another rt; TIME"),
+        ("copy", "proving perq; 1 of 3 crates left; TIME"),
+    ] {
+        let_go(&folder, name);
+        building.says(then);
+    }
+    let_go(&folder, "perq");
+    building.says(
+        "the library is proved and built: 3 crates in TIME, 1 of them unchanged since they were last proved",
     );
     assert_eq!(building.ends().0, Some(0));
 }
@@ -230,27 +276,6 @@ fn python(folder: &Folder, program: &str) -> Output {
     there(folder, "python3", &["-c", &program, &library]).output().expect("it runs")
 }
 
-/// One more has ended at each of the first two looks, and none at the next two.
-#[test]
-fn a_crate_that_is_passed_over_is_not_named() {
-    let program = "
-import subprocess, time
-lines = ['rt: base proved (unchanged', 'rt: image proved (unchanged', '', '']
-class Rt:
-    def wait(self, look):
-        if not lines:
-            return 0
-        with open('build/library.log', 'a') as log:
-            print(lines.pop(0), file=log)
-        raise subprocess.TimeoutExpired('rt', look)
-print(library['watch'](Rt(), ['base', 'image', 'perq'], time.monotonic(), 15, 0.05))";
-    let output = python(&folder("", ""), program);
-    assert_eq!(output.stdout, b"0\n");
-    let said = String::from_utf8(output.stderr).expect("text");
-    assert!(said.starts_with("proving perq; 1 of 3 crates left; "), "{said}");
-    assert_eq!(said.lines().count(), 1, "{said}");
-}
-
 #[test]
 fn a_minute_is_told_as_one() {
     let program = "print(*map(library['length'], (0.9, 59.9, 60, 72, 238)), sep=', ')";
@@ -260,54 +285,66 @@ fn a_minute_is_told_as_one() {
 
 #[test]
 fn a_failing_rt_is_told_whole_and_leaves_no_archive() {
-    let rt = "await base
-echo 'crates/base/src/lib.rt:3:1: error: not so'
-echo 'rt: base NOT PROVED (exit 1, 3 s)' >&2
+    let rt = "await rt
+begin base
+await base
+echo 'logic=proved functions=1'
+begin drive
 await drive
-echo 'rt: drive proved (1 s)'
-echo 'rt: FAILED: base'
+echo 'crates/drive/src/lib.rt:3:1: error: not so'
+echo 'rt: the library drive did not build, so nothing above it was checked' >&2
 exit 1\n";
-    let folder = folder("base:\ndrive:\nperq: base drive\n", rt);
+    let folder = folder("base:\ndrive: base\nperq staticlib: drive\n", rt);
     let mut building = Building::start(&folder, "15", "0.05");
     building.says(FIRST);
+    building.says("rt has begun no proof yet; 3 of 3 crates left; TIME");
+    let_go(&folder, "rt");
     building.says("proving base; 3 of 3 crates left; TIME");
     let_go(&folder, "base");
-    building.says("proving drive; 2 of 3 crates left, not proved: base; TIME");
+    building.says("proving drive; 2 of 3 crates left; TIME");
     let_go(&folder, "drive");
     building.says("the library is not built: rt ended with status 1 after TIME");
-    let log = "crates/base/src/lib.rt:3:1: error: not so\nrt: base NOT PROVED (exit 1, 3 s)\n\
-               rt: drive proved (1 s)\nrt: FAILED: base\n";
+    let log =
+        "rt: chose --jobs 2 for base\nlogic=proved functions=1\nrt: chose --jobs 2 for drive\n\
+               crates/drive/src/lib.rt:3:1: error: not so\n\
+               rt: the library drive did not build, so nothing above it was checked\n";
     assert_eq!(building.ends(), (Some(1), log.to_string()));
     assert_eq!(folder.read("build/library.log"), log.as_bytes());
     assert!(!folder.path("build/libperq.a").exists());
 }
 
+/// And that some have not changed is told only where rt is understood.
 #[test]
-fn no_crate_is_named_when_rt_takes_another_order() {
-    let rt = "await drive\necho 'rt: drive proved (2 s)'\nawait perq\n";
-    let folder = folder("base:\ndrive:\nperq: base drive\n", &format!("{rt}{BUILT}"));
+fn how_many_are_left_is_not_told_when_rt_takes_another_order() {
+    let rt = "await rt\nbegin drive\nawait drive\nbegin base\nawait base\n";
+    let crates = "base:\ndrive:\nperq staticlib: base drive\n";
+    let folder = folder(crates, &format!("{rt}{BUILT}"));
     let mut building = Building::start(&folder, "15", "0.05");
     building.says(FIRST);
-    building.says("proving base; 3 of 3 crates left; TIME");
+    building.says("rt has begun no proof yet; 3 of 3 crates left; TIME");
+    let_go(&folder, "rt");
+    building.says("proving drive; 2 of 3 crates left; TIME");
     let_go(&folder, "drive");
-    building.says("proving; 2 of 3 crates left; TIME");
-    let_go(&folder, "perq");
+    building.says("proving base; TIME");
+    let_go(&folder, "base");
     building.says("the library is proved and built: 3 crates in TIME");
     assert_eq!(building.ends().0, Some(0));
 }
 
 #[test]
 fn on_a_terminal_one_line_is_rewritten() {
-    let rt = "await base\necho 'rt: base proved (2 s)'\nawait perq\n";
-    let folder = folder("base:\nperq: base\n", &format!("{rt}{BUILT}"));
+    let rt = "await base\nbegin perq\nawait perq\n";
+    let folder = folder("base:\nperq staticlib: base\n", &format!("{rt}{BUILT}"));
     let mut building = Building::on_a_terminal(&folder, "0.05");
     building.says(FIRST);
-    building.says("proving base; 2 of 2 crates left; TIME");
-    building.says("proving base; 2 of 2 crates left; TIME");
+    building.says("rt has begun no proof yet; 2 of 2 crates left; TIME");
+    building.says("rt has begun no proof yet; 2 of 2 crates left; TIME");
     let_go(&folder, "base");
     building.then_says("proving perq; 1 of 2 crates left; TIME");
     let_go(&folder, "perq");
-    building.then_says("the library is proved and built: 2 crates in TIME");
+    building.then_says(
+        "the library is proved and built: 2 crates in TIME, 1 of them unchanged since they were last proved",
+    );
     assert_eq!(building.text(), None);
     assert_eq!(building.lines, 2, "the first and the last");
 }
@@ -340,7 +377,7 @@ fn ends_soon(process: u32) -> bool {
 fn an_rt_is_not_left_running() {
     for signal in ["INT", "TERM", "KILL"] {
         let rt = "echo $$ >rt.number\nsleep 60 &\necho $! >prover.number\nwait\n";
-        let folder = folder("base:\nperq: base\n", rt);
+        let folder = folder("base:\nperq staticlib: base\n", rt);
         let mut building = Building::start(&folder, "15", "0.05");
         building.says(FIRST);
         let processes = [number(&folder, "rt.number"), number(&folder, "prover.number")];
@@ -354,8 +391,8 @@ fn an_rt_is_not_left_running() {
 
 #[test]
 fn make_has_no_archive_before_rt_has_built_one() {
-    let rt = "[ -e go-perq ] || { echo 'rt: FAILED: base'; exit 1; }\n";
-    let folder = folder("base:\nperq: base\n", &format!("{rt}{BUILT}"));
+    let rt = "[ -e go-perq ] || { echo 'logic=not-proved'; exit 1; }\n";
+    let folder = folder("base:\nperq staticlib: base\n", &format!("{rt}{BUILT}"));
     std::os::unix::fs::symlink(top().join("tools"), folder.path("tools")).expect("a link");
     let makefile = text(top().join("Makefile"));
     let make = || {
@@ -365,7 +402,7 @@ fn make_has_no_archive_before_rt_has_built_one() {
         (output.status.success(), String::from_utf8(output.stdout).expect("text"))
     };
     for _ in 0..2 {
-        assert_eq!(make(), (false, "rt: FAILED: base\n".to_string()));
+        assert_eq!(make(), (false, "logic=not-proved\n".to_string()));
         assert!(!folder.path("build/libperq.a").exists());
     }
     let_go(&folder, "perq");
