@@ -1,7 +1,7 @@
 // Extract: a whole file into a caller's buffer, block by block. A refused call leaves the buffer as it is.
 #![tactic(auto)]
 
-ghost use Rattle.std.specs.Prelude.{◌≡◌, ◌+◌, ◌*◌, length};
+ghost use Rattle.std.specs.Prelude.{◌≡◌, ◌*◌, length};
 ghost use Rattle.image.specs.Image.{view};
 ghost use Rattle.volume.specs.Files.{len};
 ghost use Rattle.volume.specs.Answers.{block_bytes, extract_in, extract_into, extracted};

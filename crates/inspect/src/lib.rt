@@ -1,7 +1,7 @@
 // Code that reads: the partition, candidates, and well formed files.
 #![tactic(auto)]
 
-ghost use Rattle.std.specs.Prelude.{◌≡◌, ◌+◌, ◌*◌, ◌≤◌, ◌<◌, length};
+ghost use Rattle.std.specs.Prelude.{◌≡◌, ◌*◌, ◌≤◌, ◌<◌, length};
 ghost use Rattle.image.specs.Image.{view};
 ghost use Rattle.volume.specs.Files.{candidate, is_file, is_malformed};
 ghost use Rattle.volume.specs.Answers.{image_good, part_good, partition, lowest_malformed};

@@ -1,7 +1,7 @@
 // Who owns a block, and whether a file's blocks are linked in order: for partitions in which no candidate is malformed.
 #![tactic(auto)]
 
-ghost use Rattle.std.specs.Prelude.{◌≡◌, true, false, ◌||◌, ◌≢◌, ◌+◌, ◌*◌, ◌≤◌, ◌<◌, length, ltb, eqb};
+ghost use Rattle.std.specs.Prelude.{◌≡◌, true, ◌||◌, ◌≢◌, ◌+◌, ◌*◌, ◌≤◌, ◌<◌, length, ltb, eqb};
 ghost use Rattle.base.specs.Tests.{both, all};
 ghost use Rattle.drive.specs.Address.{pda};
 ghost use Rattle.image.specs.View.{pair};

@@ -1,7 +1,7 @@
 // Show, and show of a pair: a block's 512 bytes as a part of the lent image, and what tells the empty answers apart.
 #![tactic(auto)]
 
-ghost use Rattle.std.specs.Prelude.{◌≡◌, [], ◌+◌, ◌*◌, ◌≤◌, length, take, drop};
+ghost use Rattle.std.specs.Prelude.{◌≡◌, [], ◌+◌, ◌≤◌, length, take, drop};
 ghost use Rattle.image.specs.Image.{view};
 ghost use Rattle.volume.specs.Answers.{show_in, shown, part_of, shown_pair, part_of_pair};
 ghost use Rattle.volume.specs.Reads.{Lies};

@@ -1,7 +1,7 @@
 // Code that decides soundness: the walk of the free chain, one pass over the blocks and the files among them, and check.
 #![tactic(auto)]
 
-ghost use Rattle.std.specs.Prelude.{◌≡◌, false, ◌+◌, ◌-◌, ◌≤◌, ◌<◌};
+ghost use Rattle.std.specs.Prelude.{◌≡◌, false, ◌-◌, ◌≤◌, ◌<◌};
 ghost use Rattle.base.specs.Tests.{all};
 ghost use Rattle.base.specs.Sums.{sum};
 ghost use Rattle.image.specs.Image.{view};
