@@ -276,6 +276,32 @@ fn python(folder: &Folder, program: &str) -> Output {
     there(folder, "python3", &["-c", &program, &library]).output().expect("it runs")
 }
 
+/// Two are begun before the first look, the last one before the second, and nothing is said before the next two.
+#[test]
+fn a_crate_that_is_passed_over_is_not_named() {
+    let program = "
+import subprocess, time
+lines = ['rt: chose --jobs 2 for base\\nrt: chose --jobs 2 for image', 'rt: chose --jobs 2 for perq', '', '']
+class Rt:
+    def wait(self, look):
+        if not lines:
+            return 0
+        said = lines.pop(0)
+        with open('build/library.log', 'a') as log:
+            log.write(said + '\\n' if said else '')
+        raise subprocess.TimeoutExpired('rt', look)
+print(library['watch'](Rt(), ['base', 'image', 'perq'], time.monotonic(), 15, 0.05))";
+    let output = python(&folder("", ""), program);
+    assert_eq!(output.stdout, b"0\n");
+    let said = String::from_utf8(output.stderr).expect("text");
+    let mut lines = said.lines();
+    for expected in ["proving image; 2 of 3 crates left; ", "proving perq; 1 of 3 crates left; "] {
+        let line = lines.next().expect("a line");
+        assert!(line.starts_with(expected), "{said}");
+    }
+    assert_eq!(lines.next(), None, "{said}");
+}
+
 #[test]
 fn a_minute_is_told_as_one() {
     let program = "print(*map(library['length'], (0.9, 59.9, 60, 72, 238)), sep=', ')";
