@@ -20,7 +20,7 @@ pub replace_open-requires : goal.replace_open-requires
 replace_open-requires c = (c.requires.0, sym c.candidate.ensures ∙ not-false _ c.if-not-candidate.false-raw, c.if-r-ge-REACH.false, omega (arith, c.len-n.ensures.0, c.if-r-n.true), c.requires.1)
 
 pub returns-then-n-r : goal.returns-then-n-r
-returns-then-n-r c = answered_not BadBlock (write_far _ _ _ _ _ (sym c.candidate.ensures ∙ not-false _ c.if-not-candidate.false-raw) _ c.len-n.ensures.0 c.if-r-ge-REACH.false c.if-n-r.true) c.refused-then-n-r.ensures
+returns-then-n-r c = answered_not BadBlock (write_far _ _ _ _ _ (sym c.candidate.ensures ∙ not-false _ c.if-not-candidate.false-raw) _ c.len-n.ensures.0 c.if-r-ge-REACH.false (omega (arith, c.if-n-r.true))) c.refused-then-n-r.ensures
 
 pub append_open-requires : goal.append_open-requires
 append_open-requires c = (c.requires.0, sym c.candidate.ensures ∙ not-false _ c.if-not-candidate.false-raw, c.len-n.ensures.0, omega (arith, c.if-r-ge-REACH.false, c.if-r-n.false, c.if-n-r.false), c.requires.1)
