@@ -122,13 +122,6 @@ module _ {w : Append} {l : List ℕ} (G : Appends w l) where
     pub at_new : (b : ℕ) → b ≡ fresh π v f n k → (b ≡ spot' π v f n k) × Block l b
     at_new b q = (q ∙ sym (spot_new π v f n k h), fresh_block b q)
 
-  -- the blocks that are taken, where they are
-  pub second_few : ltb 1 w.m ≡ true → w.q < 69552
-  second_few h = let m = ltb-true 1 w.m h in subst (λ (b : ℕ). b < 69552) (sym G.second) (G.room 1 (omega arith)).few
-
-  pub third_few : ltb 2 w.m ≡ true → w.d < 69552
-  third_few h = let m = ltb-true 2 w.m h in subst (λ (b : ℕ). b < 69552) (sym G.third) (G.room 2 (omega arith)).few
-
   pub data_new : is_new π v f n (292 + n) ≡ true
   data_new = ap (is_new π v f n) (sym (over_zero n)) ∙ new_at π v f n behind 0 (needs_some π v f n)
 
@@ -240,3 +233,6 @@ module _ {w : Append} {l : List ℕ} (G : Appends w l) where
     unfolding body
     body_fib x k b hk hb hx =
         rw (hx, hb, hk, base_old π v f n dat home (home_old π v f n behind), spot_home π v f, size'_closed π v f n behind, least'_closed π v f n behind, more, G.first, ended_is)
+
+-- which keys of stores are there
+pub ruleset keys_there = (pointer_has, double_has, below_has, last_has, top_has)

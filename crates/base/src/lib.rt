@@ -6,7 +6,7 @@ ghost use Rattle.base.specs.Refusals.{number, culprit};
 
 // Why a call is refused, in the order of its numbers (docs/FORMAT.md, 7.3). A malformed candidate and a directory of the tenth level
 // are named by their LBN.
-#[derive(Clone, Copy)]
+#[derive(Clone, Copy, Debug, PartialEq, Eq)]
 pub enum Refusal {
     BadImage,
     BadPartition,
@@ -42,22 +42,21 @@ pub fn number(why: Refusal) -> u32
     }
 }
 
-// The block that a refusal names, or 0.
+// The block that a refusal names, or 0, as an answer in C has it.
 pub fn culprit(why: Refusal) -> usize
     ensures { result ≡ culprit why }
 {
     match why {
-        Refusal::BadImage => 0,
-        Refusal::BadPartition => 0,
-        Refusal::BadBuffer => 0,
-        Refusal::Malformed(f) => f,
-        Refusal::Unsound => 0,
-        Refusal::NoCandidate => 0,
-        Refusal::BadBlock => 0,
-        Refusal::Full => 0,
-        Refusal::NothingFree => 0,
-        Refusal::NoAddress => 0,
-        Refusal::TooDeep(f) => f,
-        Refusal::BadName => 0,
+        Refusal::Malformed(f) | Refusal::TooDeep(f) => f,
+        _ => 0,
+    }
+}
+
+// A refusal as its number.
+impl From<Refusal> for u32 {
+    ghost from_gives = { λ why n. n ≡ number why };
+
+    fn from(why: Refusal) -> u32 {
+        number(why)
     }
 }

@@ -2,117 +2,96 @@
 ghost use Rattle.std.specs.Prelude.{◌≡◌};
 ghost use Rattle.batch.specs.Found.{good, only, looked};
 
-use std::io::{Cursor, Read};
+use base::Refusal;
+use std::io::Read;
 use std::rt::Files;
 use std::{fs, io, str};
 use verdict::Verdict;
-use volume::Part;
 
-// The bytes of a record, of the longest image that is taken, and of what is read: one more, by which a longer file is known.
+// The bytes of a record, and of the longest image that is taken.
 pub const RECORD: usize = 528;
 
 const LONGEST: usize = 24 * RECORD;
 
-const ROOM: usize = LONGEST + 1;
-
-// What is found of a file: the verdict on its only partition; or that it has several, is longer than this program takes, or is not read.
+// The verdict on the partition at `start` in an image of so many bytes. Where no good partition starts, that is block 0, which is refused.
 #[derive(Clone, Copy)]
-pub enum Finding {
-    Came(Verdict),
+pub struct Judged {
+    pub length: usize,
+    pub start: usize,
+    pub verdict: Verdict,
+}
+
+// Why a file has no verdict: it has several good partitions, is longer than this program takes, or is not read.
+#[derive(Clone, Copy)]
+pub enum NoVerdict {
     Several,
     Long,
     Unread,
 }
 
-// A finding, with the image's bytes and its partition's first block, each 0 where it is not known.
-#[derive(Clone, Copy)]
-pub struct Judged {
-    pub length: usize,
-    pub s: usize,
-    pub finding: Finding,
-}
-
-// The first block of the only good partition, or 0, which names none; or several.
-#[derive(Clone, Copy)]
-enum Place {
-    At(usize),
-    Several,
-}
+// What is found of a file.
+pub type Found = Result<Judged, NoVerdict>;
 
 // Whether a good partition starts at s.
 fn is_good(img: &[u8], drive: usize, s: usize) -> bool
     ensures { result ≡ good drive img.now s }
 {
-    let p = inspect::partition(img, drive, s);
-    match p {
-        Part::Good(_) => true,
-        Part::Refused(_) => false,
-    }
+    inspect::partition(img, drive, s).is_ok()
 }
 
-// Where the only good partition is.
-fn only(img: &[u8], drive: usize) -> Place
+// Where the only good partition is, if there is one.
+fn only(img: &[u8], drive: usize) -> Result<Option<usize>, NoVerdict>
     ensures { result ≡ only drive img.now }
 {
-    let n = img.len() / RECORD;
-    let mut found: usize = 0;
-    for s in 0..n {
+    let mut found = None;
+    for s in 0..img.len() / RECORD {
         if is_good(img, drive, s) {
-            if 0 < found {
-                return Place::Several;
+            if found.is_some() {
+                return Err(NoVerdict::Several);
             }
-            found = s;
+            found = Some(s);
         }
     }
-    Place::At(found)
+    Ok(found)
 }
 
-// What is found of an image; its only partition is repaired where it is not sound.
-fn image(img: &mut [u8], drive: usize) -> Judged
-    ensures { (result ≡ (looked drive img.old).judged) × (img.new ≡ (looked drive img.old).image) }
+// What is found of an image; its only partition is repaired where it is not sound. Without a drive it is judged as on one that is not
+// there (specs/NoDrive.antt).
+fn image(img: &mut [u8], drive: Option<usize>) -> Found
+    ensures found { result ≡ (looked drive img.old).found }
+    ensures left { img.new ≡ (looked drive img.old).image }
 {
     let length = img.len();
-    let p = only(img, drive);
-    match p {
-        Place::At(s) => Judged {
+    let Some(drive) = drive else {
+        return Ok(Judged {
             length,
-            s,
-            finding: Finding::Came(verdict::partition(img, drive, s)),
-        },
-        Place::Several => Judged {
-            length,
-            s: 0,
-            finding: Finding::Several,
-        },
-    }
-}
-
-// A file of which no image was read.
-fn unread(why: Finding) -> Judged {
-    Judged {
-        length: 0,
-        s: 0,
-        finding: why,
-    }
-}
-
-// Reads a file into img, as much of it as there is room for, and answers how many bytes that are. A path that is not UTF-8 names no file.
-fn read(rt: &impl Files, path: &[u8], img: &mut [u8]) -> io::Result<usize> {
-    let path = str::from_utf8(path).map_err(|_| io::ErrorKind::InvalidFilename)?;
-    let room = img.len() as u64;
-    let file = fs::open(rt, path)?;
-    let n = io::copy(&mut file.take(room), &mut Cursor::new(img))?;
-    Ok(n as usize)
-}
-
-// What is found of a file. One that is longer than the longest image fills all the room.
-pub fn file(rt: &impl Files, path: &[u8], drive: usize) -> Judged {
-    let mut img = [0u8; ROOM];
-    let Ok(n) = read(rt, path, &mut img) else {
-        return unread(Finding::Unread);
+            start: 0,
+            verdict: Verdict::Refused(Refusal::BadImage),
+        });
     };
-    if LONGEST < n {
-        return unread(Finding::Long);
+    let start = only(img, drive)?.unwrap_or(0);
+    Ok(Judged {
+        length,
+        start,
+        verdict: verdict::partition(img, drive, start),
+    })
+}
+
+// The bytes of a file; of one that is longer than the longest image, one more than that has. A path that is not UTF-8 names no file.
+fn read<R: Files + Alloc>(rt: &R, path: &[u8]) -> io::Result<Vec<u8, R::A>> {
+    let path = str::from_utf8(path).map_err(|_| io::ErrorKind::InvalidFilename)?;
+    let mut bytes = Vec::new(rt.alloc());
+    fs::open(rt, path)?
+        .take(LONGEST as u64 + 1)
+        .read_to_end(&mut bytes)?;
+    Ok(bytes)
+}
+
+// What is found of a file.
+pub fn file(rt: &(impl Files + Alloc), path: &[u8], drive: Option<usize>) -> Found {
+    let mut img = read(rt, path).map_err(|_| NoVerdict::Unread)?;
+    if LONGEST < img.len() {
+        return Err(NoVerdict::Long);
     }
-    image(&mut img[..n], drive)
+    image(&mut img, drive)
 }

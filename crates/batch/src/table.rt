@@ -1,184 +1,172 @@
 // The report in the words of the tool: a line for each image, and the counts.
-use crate::judge::{Finding, Judged, RECORD};
-use std::io;
-use verdict::Verdict;
+ghost use Rattle.std.specs.Prelude.{◌≡◌};
+ghost use Rattle.batch.specs.Table.{status_of, one_more};
 
-// The outcomes, the best first.
-pub const SOUND: usize = 0;
+use crate::judge::{Found, Judged, NoVerdict, RECORD};
+use base::Refusal;
+use std::{fmt, io};
+use verdict::{Tally, Verdict};
 
-pub const REPAIRED: usize = 1;
+// How an image came out.
+#[derive(Clone, Copy, Debug, PartialEq, Eq)]
+pub enum Status {
+    Sound,
+    Repaired,
+    SetAside,
+    Refused,
+}
 
-pub const SET_ASIDE: usize = 2;
-
-pub const REFUSED: usize = 3;
-
-// How wide the column of names is; a longer name moves its line to the right.
-const NAMES: usize = 13;
-
-// The place of a verdict's outcome in that order.
-fn place(v: Verdict) -> usize {
-    match v {
-        Verdict::Sound(_, _, _) => SOUND,
-        Verdict::Repaired(_, _, _, _) => REPAIRED,
-        Verdict::SetAside(_) => SET_ASIDE,
-        Verdict::Refused(_) => REFUSED,
+impl fmt::Display for Status {
+    fn fmt<W: fmt::Write>(&self, f: &mut fmt::Formatter<W>) -> fmt::Result {
+        f.pad(match self {
+            Status::Sound => "sound",
+            Status::Repaired => "repaired",
+            Status::SetAside => "set aside",
+            Status::Refused => "refused",
+        })
     }
 }
 
-// The place of a finding's outcome: without a verdict it is refused.
-pub fn rank(f: Finding) -> usize {
-    match f {
-        Finding::Came(v) => place(v),
-        Finding::Several => REFUSED,
-        Finding::Long => REFUSED,
-        Finding::Unread => REFUSED,
+impl Status {
+    // How an image came out of which that is found: without a verdict it is refused.
+    pub fn of(found: &Found) -> Status
+        ensures { result ≡ status_of found.now }
+    {
+        let Ok(judged) = found else {
+            return Status::Refused;
+        };
+        match judged.verdict {
+            Verdict::Sound(_) => Status::Sound,
+            Verdict::Repaired(_, _) => Status::Repaired,
+            Verdict::SetAside(_) => Status::SetAside,
+            Verdict::Refused(_) => Status::Refused,
+        }
     }
 }
 
-// Writes words.
-fn text(rt: &impl Print, t: &str) -> io::Result<()> {
-    rt.print(t)
+// How many images came out each way.
+#[derive(Clone, Copy, Default)]
+pub struct Counts {
+    pub sound: usize,
+    pub repaired: usize,
+    pub set_aside: usize,
+    pub refused: usize,
 }
 
-// Writes a number.
-fn number(rt: &impl Print, x: usize) -> io::Result<()> {
-    rt.print(x)
-}
-
-// Fills a column in which n bytes stand, and begins the next.
-fn column(rt: &impl Print, n: usize) -> io::Result<()> {
-    for _ in n..NAMES {
-        text(rt, " ")?;
+impl Counts {
+    // Counts one more image.
+    pub fn add(&mut self, status: Status)
+        ensures { self.new ≡ one_more self.old status }
+    {
+        match status {
+            Status::Sound => self.sound = self.sound.saturating_add(1),
+            Status::Repaired => self.repaired = self.repaired.saturating_add(1),
+            Status::SetAside => self.set_aside = self.set_aside.saturating_add(1),
+            Status::Refused => self.refused = self.refused.saturating_add(1),
+        }
     }
-    text(rt, "  ")
 }
 
-// The line above all images.
-pub fn head(rt: &impl Print) -> io::Result<()> {
-    text(rt, "image")?;
-    column(rt, 5)?;
-    text(rt, "outcome\n")
-}
-
-// The name of an outcome, as wide as the longest.
-fn outcome(rt: &impl Print, rank: usize) -> io::Result<()> {
-    match rank {
-        SOUND => text(rt, "sound      "),
-        REPAIRED => text(rt, "repaired   "),
-        SET_ASIDE => text(rt, "set aside  "),
-        _ => text(rt, "refused    "),
+impl fmt::Display for Counts {
+    fn fmt<W: fmt::Write>(&self, f: &mut fmt::Formatter<W>) -> fmt::Result {
+        let Counts {
+            sound,
+            repaired,
+            set_aside,
+            refused,
+        } = *self;
+        write!(
+            f,
+            "{sound} sound, {repaired} repaired, {set_aside} set aside, {refused} refused"
+        )
     }
 }
 
 // What a partition holds.
-fn held(rt: &impl Print, files: usize, owned: usize, free: usize) -> io::Result<()> {
-    let what = if files == 1 { "file" } else { "files" };
-    print!(rt; "{files} {what}, {owned} blocks owned, {free} free")
-}
+#[derive(Clone, Copy)]
+struct Held(Tally);
 
-// A refusal's number, before the sentence.
-fn refused(rt: &impl Print, n: usize) -> io::Result<()> {
-    print!(rt; "refused ({n}): ")
-}
-
-// Why so many bytes are no image.
-fn no_image(rt: &impl Print, length: usize) -> io::Result<()> {
-    if length < 1 {
-        return text(rt, "the image is empty");
-    }
-    if length % RECORD == 0 {
-        return text(rt, "no drive of that number has so many blocks");
-    }
-    about(
-        rt,
-        "the image's ",
-        length,
-        " bytes are no whole number of 528-byte records",
-    )
-}
-
-// A number between words.
-fn about(rt: &impl Print, before: &str, n: usize, after: &str) -> io::Result<()> {
-    text(rt, before)?;
-    number(rt, n)?;
-    text(rt, after)
-}
-
-// Why an image of so many bytes, or its partition at s, is refused by that number.
-fn sentence(rt: &impl Print, n: usize, length: usize, s: usize) -> io::Result<()> {
-    refused(rt, n)?;
-    match n {
-        1 => no_image(rt, length),
-        2 => text(rt, "no good partition starts at any block"),
-        9 => about(
-            rt,
-            "the partition at block ",
-            s,
-            " has no free block, so there is no chain to repair",
-        ),
-        _ => about(rt, "the partition at block ", s, " is not as it must be"),
+impl fmt::Display for Held {
+    fn fmt<W: fmt::Write>(&self, f: &mut fmt::Formatter<W>) -> fmt::Result {
+        let Tally { files, owned, free } = self.0;
+        let what = if files == 1 { "file" } else { "files" };
+        write!(f, "{files} {what}, {owned} blocks owned, {free} free")
     }
 }
 
-// What is said of a verdict.
-fn remark(rt: &impl Print, length: usize, s: usize, v: Verdict) -> io::Result<()> {
-    match v {
-        Verdict::Sound(files, owned, free) => held(rt, files, owned, free),
-        Verdict::Repaired(stores, files, owned, free) => {
-            count(rt, stores, " stores: ")?;
-            held(rt, files, owned, free)
+impl Judged {
+    // Why the image, or its partition, is refused so.
+    fn why<W: fmt::Write>(&self, f: &mut fmt::Formatter<W>, why: Refusal) -> fmt::Result {
+        let Judged { length, start, .. } = *self;
+        match why {
+            Refusal::BadImage if length == 0 => f.write_str("the image is empty"),
+            Refusal::BadImage if length % RECORD == 0 => {
+                f.write_str("no drive of that number has so many blocks")
+            }
+            Refusal::BadImage => write!(
+                f,
+                "the image's {length} bytes are no whole number of 528-byte records"
+            ),
+            Refusal::BadPartition => f.write_str("no good partition starts at any block"),
+            Refusal::NothingFree => write!(
+                f,
+                "the partition at block {start} has no free block, so there is no chain to repair"
+            ),
+            _ => write!(f, "the partition at block {start} is not as it must be"),
         }
-        Verdict::SetAside(f) => {
-            refused(rt, 4)?;
-            about(rt, "block ", f, " is a malformed file block")
-        }
-        Verdict::Refused(why) => sentence(rt, base::number(why) as usize, length, s),
     }
 }
 
-// What is said of a finding on an image of so many bytes, or on its partition at s.
-fn said(rt: &impl Print, length: usize, s: usize, f: Finding) -> io::Result<()> {
-    match f {
-        Finding::Came(v) => remark(rt, length, s, v),
-        Finding::Several => text(
-            rt,
-            "more than one good partition, and this program takes one",
-        ),
-        Finding::Long => text(
-            rt,
-            "the image is longer than 24 records, and this program takes no more",
-        ),
-        Finding::Unread => text(rt, "cannot read it"),
+impl fmt::Display for Judged {
+    fn fmt<W: fmt::Write>(&self, f: &mut fmt::Formatter<W>) -> fmt::Result {
+        match self.verdict {
+            Verdict::Sound(tally) => {
+                let held = Held(tally);
+                write!(f, "{held}")
+            }
+            Verdict::Repaired(stores, tally) => {
+                let held = Held(tally);
+                write!(f, "{stores} stores: {held}")
+            }
+            Verdict::SetAside(block) => {
+                write!(f, "refused (4): block {block} is a malformed file block")
+            }
+            Verdict::Refused(why) => {
+                let number = base::number(why);
+                write!(f, "refused ({number}): ")?;
+                self.why(f, why)
+            }
+        }
     }
+}
+
+impl fmt::Display for NoVerdict {
+    fn fmt<W: fmt::Write>(&self, f: &mut fmt::Formatter<W>) -> fmt::Result {
+        f.write_str(match self {
+            NoVerdict::Several => "more than one good partition, and this program takes one",
+            NoVerdict::Long =>
+                "the image is longer than 24 records, and this program takes no more",
+            NoVerdict::Unread => "cannot read it",
+        })
+    }
+}
+
+// How wide the column of names is; a longer name moves its line to the right.
+const NAMES: usize = 13;
+
+// The line above all images.
+pub fn head(rt: &impl Print) -> io::Result<()> {
+    println!(rt; "{:NAMES$}  outcome", "image")
 }
 
 // The line of an image. Its name need not be text.
-pub fn line(rt: &impl Print, name: &[u8], j: Judged) -> io::Result<()> {
+pub fn line(rt: &impl Print, name: &[u8], found: &Found) -> io::Result<()> {
     rt.write_all(name)?;
-    column(rt, name.len())?;
-    let f = j.finding;
-    outcome(rt, rank(f))?;
-    said(rt, j.length, j.s, f)?;
-    text(rt, "\n")
-}
-
-// A count and what it counts.
-fn count(rt: &impl Print, n: usize, what: &str) -> io::Result<()> {
-    number(rt, n)?;
-    text(rt, what)
-}
-
-// The last line: how many images had each outcome.
-pub fn counts(
-    rt: &impl Print,
-    sound: usize,
-    repaired: usize,
-    aside: usize,
-    refused: usize,
-) -> io::Result<()> {
-    text(rt, "\n")?;
-    count(rt, sound, " sound, ")?;
-    count(rt, repaired, " repaired, ")?;
-    count(rt, aside, " set aside, ")?;
-    count(rt, refused, " refused\n")
+    let gap = NAMES.saturating_sub(name.len());
+    let status = Status::of(found);
+    print!(rt; "{:gap$}  {status:11}", "")?;
+    match found {
+        Ok(judged) => println!(rt; "{judged}"),
+        Err(why) => println!(rt; "{why}"),
+    }
 }

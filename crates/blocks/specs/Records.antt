@@ -1,9 +1,11 @@
 -- The parts of the records that repair stores, over plain numbers: the PIB, and words that are made nil.
-use Rattle.std.specs.Prelude.{◌≡◌, refl, List, ◌≢◌, ℕ, ◌+◌, ◌-◌, ◌*◌, ◌/◌, ◌≤◌, ◌<◌, leb, ltb, eqb, length, get_or, set}
+use Rattle.std.specs.Prelude.{◌≡◌, refl, List, ℕ, ◌+◌, ◌-◌, ◌*◌, ◌/◌, ◌≤◌, ◌<◌, leb, ltb, length, get_or, replicate, ◌≢◌, eqb, set}
 use Rattle.std.proofs.Math.Path.{sym, fun_ext}
-use Rattle.std.proofs.Common.{ap, ap₂, ◌∙◌, arith, length-set, get_or-set_same, get_or-set_other, ltb-true, ltb-false, eqb-true, leb-true, le-leb, lt-ltb, le-ltb}
+use Rattle.std.proofs.Common.{ap, ap₂, ◌∙◌, arith, rules, ltb-true, ltb-false, leb-true, le-leb, lt-ltb, le-ltb, length-set, get_or-set_same, get_or-set_other, eqb-true}
 use mathlib.Core.Bool.{Bool, true, false}
-use Rattle.std.proofs.lemmas.Bool.{eqb-false}
+use Rattle.std.proofs.lemmas.Bool.{leb-false, eqb-false}
+use Rattle.std.proofs.lemmas.List.{places}
+use borrow.Rule.Slice.PartMut.{put_mid}
 use Rattle.base.specs.Tests.{pick, both}
 use Rattle.base.specs.Laws.{iff_eq, both_left, both_right, both_of}
 use Rattle.drive.specs.Address.{address}
@@ -66,6 +68,34 @@ module _ (n k : ℕ) (r : Rec) where
   pub shaped_other : home ≤ k → r ≡ shaped n k r
   unfolding shaped
   shaped_other h = sym (ap (λ (t : Bool). pick t (trimmed n k r) r) (le-ltb k home h))
+
+-- the bytes of r with nil ones from word w on
+module _ (r : List ℕ) (w : ℕ) (h : length r ≡ 528) (l : w ≤ 264) where
+  abbrev filled : List ℕ
+  filled = put_mid (2 * w) (528 - 2 * w) r (replicate (528 - 2 * w) 0)
+
+  kept : (j : ℕ) → j < 2 * w → get_or filled j 0 ≡ get_or r j 0
+  kept j m = search (rules, places)
+
+  nil : (j : ℕ) → 2 * w ≤ j → j < 528 → get_or filled j 0 ≡ 0
+  nil j m n = search (rules, places)
+
+  filled_is : rec_of filled ≡ cleared w (rec_of r)
+  unfolding rec_of cleared
+  filled_is = fun_ext (λ y. go y (ltb y 264) refl (leb w y) refl)
+    where
+      go : (y : ℕ) (t : Bool) → ltb y 264 ≡ t → (u : Bool) → leb w y ≡ u
+          → pick t (get_or filled (2 * y) 0 + 256 * get_or filled (2 * y + 1) 0) 0 ≡ pick u 0 (pick t (get_or r (2 * y) 0 + 256 * get_or r (2 * y + 1) 0) 0)
+      go y true p true q =
+          let m = ltb-true y 264 p in
+          let n = leb-true w y q in
+          ap₂ (λ (i j : ℕ). i + 256 * j) (nil (2 * y) (omega arith) (omega arith)) (nil (2 * y + 1) (omega arith) (omega arith))
+      go y true p false q = let n = leb-false w y q in ap₂ (λ (i j : ℕ). i + 256 * j) (kept (2 * y) (omega arith)) (kept (2 * y + 1) (omega arith))
+      go y false p true q = refl
+      go y false p false q = refl
+
+  pub filled_with : {x : List ℕ} {n : ℕ} → x ≡ replicate n 0 → n ≡ 528 - 2 * w → rec_of (put_mid (2 * w) (528 - 2 * w) r x) ≡ cleared w (rec_of r)
+  filled_with e q = rw (e, q) filled_is
 
 -- x is r with its bytes from a up to i nil
 pub record Clearing (r x : List ℕ) (a i : ℕ) : Type 0 where

@@ -9,10 +9,9 @@ ghost use Rattle.volume.specs.Words.{serial_at, filler_at, next_at, previous_at}
 ghost use Rattle.volume.specs.Files.{owned};
 ghost use Rattle.volume.specs.Plans.{as_filler, trimmed, shaped, relinked};
 ghost use Rattle.blocks.specs.Records.{cleared, pib_record};
-ghost use Rattle.blocks.specs.Ready.{Ready};
 
-use inspect::HOME;
-use volume::Partition;
+use inspect::{File, HOME};
+use links::Clean;
 use volume::words::{FILLER, FREE_HEAD, FREE_TAIL, NEXT, NUMBER_FREE, PREVIOUS, SERIAL, SLOTS};
 
 // The record of an unowned block of the chain that begins at `first`: no serial, the filler of the first, and its neighbours.
@@ -53,9 +52,7 @@ fn cleared(r: [u8; 528], w: usize) -> [u8; 528]
     ensures { rec_of result ≡ cleared w (rec_of r) }
 {
     let mut x = r;
-    for i in 2 * w..528 {
-        x[i] = 0;
-    }
+    x[2 * w..].fill(0);
     x
 }
 
@@ -80,16 +77,17 @@ fn content(img: &[u8], b: usize, n: usize, k: usize) -> [u8; 528]
 }
 
 // The record of an owned block, with the links of its key in its file.
-pub fn relinked(img: &[u8], p: Partition, b: usize) -> [u8; 528]
-    requires { (Ready p img.now) × (b ≤ p.e) × (owned p (view img.now) b ≡ true) }
-    ensures { rec_of result ≡ relinked p (view img.now) b }
+pub fn relinked(clean: &Clean<'_>, b: usize) -> [u8; 528]
+    requires { (b ≤ clean.now.volume.p.e) × (owned clean.now.volume.p (view clean.now.volume.img.now) b ≡ true) }
+    ensures { rec_of result ≡ relinked clean.now.volume.p (view clean.now.volume.img.now) b }
 {
-    let f = drive::pda_block(p.drive, image::pair(img, b, SERIAL));
-    let k = links::key_in(img, b);
-    let n = inspect::len(img, f);
-    let next = links::next_of(img, p, f, n, k);
-    let previous = links::prev_of(img, p, f, n, k);
-    let x = content(img, b, n, k);
+    let volume = clean.volume;
+    let f = drive::pda_block(volume.p.drive, image::pair(volume.img, b, SERIAL));
+    let file = File { volume, f };
+    let k = links::key_in(volume.img, b);
+    let next = links::next_of(&file, k);
+    let previous = links::prev_of(&file, k);
+    let x = content(volume.img, b, file.len(), k);
     let x = image::with_pair(x, PREVIOUS, previous);
     image::with_pair(x, NEXT, next)
 }

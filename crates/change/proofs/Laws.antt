@@ -1,4 +1,5 @@
 -- What an open gate gives the calls behind it: where the blocks lie that they read and store, and what answers them.
+use Rattle.std.specs.Prelude.{Result, Ok, Err}
 use mathlib.Core.Path.{◌≡◌, refl, ap, ◌∙◌}
 use mathlib.Core.List.{List}
 use mathlib.Core.Bool.{true, false}
@@ -15,10 +16,11 @@ use Rattle.image.specs.Image.{view}
 use Rattle.image.specs.Stores.{stored}
 use Rattle.image.specs.Saves.{Made}
 use Rattle.volume.specs.Words.{next_at, number_free_at}
-use Rattle.volume.specs.Files.{candidate, free, free_head}
+use Rattle.volume.specs.Files.{partition_of, candidate, free, free_head}
+use Rattle.volume.specs.Outcome.{Lent}
 use Rattle.volume.specs.declared.Partition.{Partition}
 use Rattle.volume.specs.Plans.{Plan, stores, free_at, free_tail, taken_stores, create_plan, describe_plan}
-use Rattle.volume.specs.Calls.{Planned, refuse, finish, room, create_in, describe_in, Answered}
+use Rattle.volume.specs.Calls.{Planned, refuse, finish, through, room, create_in, describe_in, Answered, refusal, completion}
 use Rattle.volume.proofs.Readings.{inside_of, candidate_in}
 use Rattle.volume.specs.declared.Answer.{Answer}
 use Rattle.frame.specs.Sound.{free_in, sound_clean, sound_number, head_free, tail_free}
@@ -27,7 +29,7 @@ use Rattle.inspect.specs.Parts.{Opened}
 use Rattle.inspect.proofs.Laws.{wf_opened}
 use Rattle.records.specs.Records.{Block, created, described}
 use Rattle.records.proofs.Laws.{block_in}
-use Rattle.change.specs.Gate.{Opens, refusal, completion}
+use Rattle.change.specs.Gate.{Opens, gate, gate_at, gate_opens, enters, shut}
 use Rattle.frame.specs.Chain.{chain_short}
 
 -- ---- answers
@@ -44,6 +46,20 @@ answered_done q h m e = rw (h, e) (record { outcome = refl; made = m.count; imag
 
 pub answered_as : {limit : ℕ} {p q : Planned} {l l' : List ℕ} {a : Answer} → p ≡ q → Answered limit q l l' a → Answered limit p l l' a
 answered_as h x = rw h x
+
+-- ---- at the gate, of a buffer that is `lent`: a call that is refused there, and one that goes through
+
+pub gate_passed : {d s e : ℕ} {l : List ℕ} {x lent : Lent} {g : Result ℕ Refusal} → g ≡ gate d l s x → x ≡ lent → g ≡ Ok e → (Opens (partition_of d s e) l) × (lent ≡ Ok tt)
+gate_passed q h i = gate_opens _ _ _ _ _ (gate_at _ _ _ q h i)
+
+module _ (d : ℕ) (l : List ℕ) (s : ℕ) (k : Partition → Planned) {x lent : Lent} {limit : ℕ} {a : Answer} {g : Result ℕ Refusal}
+    (q : g ≡ gate d l s x) (h : x ≡ lent) where
+  pub answered_shut : {y : Refusal} → g ≡ Err y → a ≡ refusal y → Answered limit (through d l s lent k) l l a
+  answered_shut {y} i = answered_not y (shut d l s lent k y (gate_at d l s q h i))
+
+  pub answered_open : {e : ℕ} {l' : List ℕ} → g ≡ Ok e → Answered limit (k (partition_of d s e)) l l' a
+      → Answered limit (through d l s lent k) l l' a
+  answered_open {e} i = answered_as (enters d l s lent k e (gate_at d l s q h i)).goes
 
 -- ---- behind the gate
 

@@ -1,5 +1,5 @@
 -- Refusal 8 is given exactly when too few blocks are free and nothing earlier applies.
-use Rattle.std.specs.Prelude.{◌≡◌, Bool, List, [], ◌∷◌, ℕ, ◌+◌, ◌<◌, ◌≤◌}
+use Rattle.std.specs.Prelude.{◌≡◌, Bool, List, [], ◌∷◌, ℕ, ◌+◌, ◌<◌, ◌≤◌, Some, Result, Ok, Err}
 use Rattle.std.proofs.Math.Path.{refl}
 use Rattle.std.proofs.Common.{sym, ap, ◌∙◌, arith}
 use Rattle.std.proofs.Math.Bool.{true, false}
@@ -15,13 +15,10 @@ use Rattle.image.specs.Saves.{words}
 use Rattle.volume.specs.Keys.{reach}
 use Rattle.volume.specs.Files.{partition_of, candidate, len}
 use Rattle.volume.specs.declared.Partition.{Partition}
+use Rattle.volume.specs.Outcome.{Outcome}
 use Rattle.volume.specs.Writes as writes
 use Rattle.volume.specs.Calls.{Planned, refuse, through, room, lent_block, create_in, append_in, write_in, create, write, planned}
-use Rattle.volume.specs.declared.Lent.{Lent}
-use Rattle.volume.specs.declared.Lent.TheVariants.{Fine}
-use Rattle.volume.specs.declared.Part.{Part}
-use Rattle.volume.specs.declared.Part.TheVariants as part
-use Rattle.volume.specs.declared.Outcome.TheVariants.{Done, Refused}
+use Rattle.volume.specs.Outcome.{Lent}
 use Rattle.base.specs.Refusals.{number}
 use Rattle.change.specs.Gate.{gate, Opens, enters, shut, gate_number, goes_through}
 
@@ -30,29 +27,29 @@ use Rattle.change.specs.Gate.{gate, Opens, enters, shut, gate_number, goes_throu
 pub record Crowded (d : ℕ) (l : List ℕ) (s : ℕ) (lent : Lent) (asks : Partition → Bool) (needs : Partition → ℕ) : Type 0 where
   pub e : ℕ
   pub opens : Opens (partition_of d s e) l
-  pub fine : lent ≡ Fine
+  pub fine : lent ≡ Ok tt
   pub asked : asks (partition_of d s e) ≡ true
   pub few : room (partition_of d s e) (view l) < needs (partition_of d s e) + 1
 
-not_full : (a b c : ℕ) → Done a b c ≡ Refused Full → ⊥
+not_full : (a b c : ℕ) → ◌≡◌ {A = Outcome} (Ok (Some (a, b, c))) (Err Full) → ⊥
 not_full a b c h = let z : ◌≡◌ {A = ℕ} 0 1 = cc in omega arith
 
-no_full : (y : Refusal) → (number y ≡ 8 → ⊥) → Refused y ≡ Refused Full → ⊥
+no_full : (y : Refusal) → (number y ≡ 8 → ⊥) → ◌≡◌ {A = Outcome} (Err y) (Err Full) → ⊥
 no_full y n h = let i : y ≡ Full = cc in n (ap number i)
 
 -- behind the gate, the call comes to `Full` just where it asks for something there and the blocks are too few
 module _ (d : ℕ) (l : List ℕ) (s : ℕ) (lent : Lent) (k : Partition → Planned) (asks : Partition → Bool) (needs : Partition → ℕ) where
-  crowded : ((π : Partition) → (k π).outcome ≡ Refused Full → (asks π ≡ true) × (room π (view l) < needs π + 1))
-      → (through d l s lent k).outcome ≡ Refused Full → Crowded d l s lent asks needs
+  crowded : ((π : Partition) → (k π).outcome ≡ Err Full → (asks π ≡ true) × (room π (view l) < needs π + 1))
+      → (through d l s lent k).outcome ≡ Err Full → Crowded d l s lent asks needs
   crowded inner h = go (gate d l s lent) refl
     where
-      go : (p : Part) → gate d l s lent ≡ p → Crowded d l s lent asks needs
-      go (part.Good e) q =
+      go : (p : Result ℕ Refusal) → gate d l s lent ≡ p → Crowded d l s lent asks needs
+      go (Ok e) q =
           let x = enters d l s lent k e q in
           let r = inner (partition_of d s e) (sym (ap (λ (p : Planned). p.outcome) x.goes) ∙ h) in
           record { e = e; opens = x.opens; fine = x.fine; asked = r.0; few = r.1 }
-      go (part.Refused y) q =
-          let z : Refused y ≡ Refused Full = sym (ap (λ (p : Planned). p.outcome) (shut d l s lent k y q)) ∙ h in
+      go (Err y) q =
+          let z : ◌≡◌ {A = Outcome} (Err y) (Err Full) = sym (ap (λ (p : Planned). p.outcome) (shut d l s lent k y q)) ∙ h in
           let i : y ≡ Full = cc in
           absurd (gate_number d l s lent y q (ap number i))
 
@@ -64,9 +61,9 @@ module _ (d : ℕ) (l : List ℕ) (s : ℕ) (lent : Lent) (k : Partition → Pla
 
 module _ (d : ℕ) (l : List ℕ) (s kind : ℕ) where
   abbrev pub CreateCrowded : Type 0
-  CreateCrowded = Crowded d l s Fine (λ π. true) (λ π. 1)
+  CreateCrowded = Crowded d l s (Ok tt) (λ π. true) (λ π. 1)
 
-  create_few : (π : Partition) → (create_in π (view l) kind).outcome ≡ Refused Full → room π (view l) < 2
+  create_few : (π : Partition) → (create_in π (view l) kind).outcome ≡ Err Full → room π (view l) < 2
   unfolding create_in
   create_few π h = go (leb (room π (view l)) 1) refl
     where
@@ -74,13 +71,13 @@ module _ (d : ℕ) (l : List ℕ) (s kind : ℕ) where
       go true q = omega (arith, leb-true (room π (view l)) 1 q)
       go false q = absurd (not_full _ _ _ (rw (create_in, q) at h))
 
-  pub create_crowded : (planned d l s (create kind)).outcome ≡ Refused Full → CreateCrowded
+  pub create_crowded : (planned d l s (create kind)).outcome ≡ Err Full → CreateCrowded
   unfolding planned
-  create_crowded = crowded d l s Fine _ (λ π. true) (λ π. 1) (λ π h. (refl, create_few π h))
+  create_crowded = crowded d l s (Ok tt) _ (λ π. true) (λ π. 1) (λ π h. (refl, create_few π h))
 
   pub create_full : CreateCrowded → planned d l s (create kind) ≡ refuse Full
   unfolding planned create_in
-  create_full = full d l s Fine _ (λ π. true) (λ π. 1) (λ π a f. rw (create_in, le-leb (room π (view l)) 1 (omega arith)))
+  create_full = full d l s (Ok tt) _ (λ π. true) (λ π. 1) (λ π a f. rw (create_in, le-leb (room π (view l)) 1 (omega arith)))
 
 -- ---- write
 
@@ -96,7 +93,7 @@ module _ (d : ℕ) (l : List ℕ) (s f r : ℕ) (block : List ℕ) where
   abbrev pub WriteCrowded : Type 0
   WriteCrowded = Crowded d l s (lent_block block) appends append_needs
 
-  append_few : (π : Partition) → (append_in π (view l) f r (words block)).outcome ≡ Refused Full → room π (view l) < append_needs π + 1
+  append_few : (π : Partition) → (append_in π (view l) f r (words block)).outcome ≡ Err Full → room π (view l) < append_needs π + 1
   unfolding append_in
   append_few π h = go (leb (room π (view l)) (append_needs π)) refl
     where
@@ -104,7 +101,7 @@ module _ (d : ℕ) (l : List ℕ) (s f r : ℕ) (block : List ℕ) where
       go true q = omega (arith, leb-true (room π (view l)) (append_needs π) q)
       go false q = absurd (not_full _ _ _ (rw (append_in, q) at h))
 
-  write_few : (π : Partition) → (write_in π (view l) f r (words block)).outcome ≡ Refused Full → (appends π ≡ true) × (room π (view l) < append_needs π + 1)
+  write_few : (π : Partition) → (write_in π (view l) f r (words block)).outcome ≡ Err Full → (appends π ≡ true) × (room π (view l) < append_needs π + 1)
   unfolding write_in
   write_few π h = go (candidate π (view l) f) refl (ltb r reach) refl (ltb r (len (view l) f)) refl (eqb r (len (view l) f)) refl
     where
@@ -117,7 +114,7 @@ module _ (d : ℕ) (l : List ℕ) (s f r : ℕ) (block : List ℕ) where
       go true p false q c x t y = absurd (no_full BadBlock (λ z. omega arith) (rw (write_in, p, q) at h))
       go false p b q c x t y = absurd (no_full NoCandidate (λ z. omega arith) (rw (write_in, p) at h))
 
-  pub write_crowded : (planned d l s (write f r block)).outcome ≡ Refused Full → WriteCrowded
+  pub write_crowded : (planned d l s (write f r block)).outcome ≡ Err Full → WriteCrowded
   unfolding planned
   write_crowded = crowded d l s (lent_block block) _ appends append_needs write_few
 

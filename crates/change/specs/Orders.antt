@@ -1,5 +1,6 @@
 -- A changing call makes no two stores in one block, and all but repair make at most ten.
-use Rattle.std.specs.Prelude.{◌≡◌, ◌≢◌, length}
+use Rattle.std.specs.Prelude.{◌≡◌, ◌≢◌, length, Option, Some, None, Result, Ok, Err}
+use Rattle.base.specs.declared.Refusal.{Refusal}
 use Rattle.std.proofs.Math.Path.{refl, ap}
 use Rattle.std.proofs.Math.Bool.{Bool, true, false}
 use mathlib.Core.List.{List, [], ◌∷◌, ◌++◌}
@@ -23,12 +24,7 @@ use Rattle.volume.specs.Writes.{needs, write_plan, replace_plan}
 use Rattle.volume.specs.Calls.{Planned, refuse, finish, lent_block, lent_text, unmarred, through, room, Call, create, write, describe, destroy, repair, create_in, append_in, write_in, describe_in, destroy_in, repair_in, planned}
 use Rattle.volume.specs.Answers.{lowest_malformed}
 use Rattle.volume.proofs.Readings.{in_part}
-use Rattle.volume.specs.declared.Found.{Found}
-use Rattle.volume.specs.declared.Found.TheVariants.{At, Nothing}
-use Rattle.volume.specs.declared.Lent.{Lent}
-use Rattle.volume.specs.declared.Lent.TheVariants.{Fine}
-use Rattle.volume.specs.declared.Part.{Part}
-use Rattle.volume.specs.declared.Part.TheVariants as part
+use Rattle.volume.specs.Outcome.{Lent}
 use Rattle.growth.specs.Promise.{Writing}
 use Rattle.growth.proofs.Promise.{write_few, write_once}
 use Rattle.change.specs.Gate.{gate, Opens, enters, shut}
@@ -126,9 +122,9 @@ module _ (d : ℕ) (l : List ℕ) (s : ℕ) where
   through_orderly : (lent : Lent) (k : Partition → Planned) → ((e : ℕ) → Opens (partition_of d s e) l → Orderly (k (partition_of d s e)).list) → Orderly (through d l s lent k).list
   through_orderly lent k inner = go (gate d l s lent) refl
     where
-      go : (p : Part) → gate d l s lent ≡ p → Orderly (through d l s lent k).list
-      go (part.Good e) q = let x = enters d l s lent k e q in rw x.goes (inner e x.opens)
-      go (part.Refused y) q = rw (shut d l s lent k y q) no_store
+      go : (p : Result ℕ Refusal) → gate d l s lent ≡ p → Orderly (through d l s lent k).list
+      go (Ok e) q = let x = enters d l s lent k e q in rw x.goes (inner e x.opens)
+      go (Err y) q = rw (shut d l s lent k y q) no_store
 
   module _ (e : ℕ) (o : Opens (partition_of d s e) l) where
     create_in_orderly : (kind : ℕ) → Orderly (create_in (partition_of d s e) (view l) kind).list
@@ -183,10 +179,10 @@ module _ (d : ℕ) (l : List ℕ) (s : ℕ) where
   -- every call but repair, on every image
   pub orderly : (call : Call) → call ≢ repair → Orderly (planned d l s call).list
   unfolding planned
-  orderly (create kind) n = through_orderly Fine _ (λ e o. create_in_orderly e o kind)
+  orderly (create kind) n = through_orderly (Ok tt) _ (λ e o. create_in_orderly e o kind)
   orderly (write f r block) n = through_orderly (lent_block block) _ (λ e o. write_in_orderly e o f r (words block))
   orderly (describe f text) n = through_orderly (lent_text text) _ (λ e o. describe_in_orderly e o f (words text))
-  orderly (destroy f) n = through_orderly Fine _ (λ e o. destroy_in_orderly e o f)
+  orderly (destroy f) n = through_orderly (Ok tt) _ (λ e o. destroy_in_orderly e o f)
   orderly repair n = absurd (n refl)
 
 -- ---- repair, and so every call, makes at most one store in a block
@@ -235,9 +231,9 @@ module _ (d : ℕ) (l : List ℕ) (s : ℕ) where
       none : times b [] ≤ 1
       none = omega (arith, times_none b)
 
-      go : (π : Partition) (x : Found) → times b (unmarred x (repair_in π (view l))).list ≤ 1
-      go π (At f) = none
-      go π Nothing = repair_in_orderly π (view l) b
+      go : (π : Partition) (x : Option ℕ) → times b (unmarred x (repair_in π (view l))).list ≤ 1
+      go π (Some f) = none
+      go π None = repair_in_orderly π (view l) b
 
   -- every call, on every image
   pub once : (call : Call) (b : ℕ) → occ b (places (planned d l s call).list) ≤ 1

@@ -8,33 +8,42 @@ ghost use Rattle.volume.specs.Files.{free_head};
 ghost use Rattle.volume.specs.Plans.{free_tail};
 ghost use Rattle.volume.specs.Calls.{room};
 ghost use Rattle.records.specs.Records.{Block};
-ghost use Rattle.change.specs.Gate.{Opens};
 
-use volume::Partition;
+use crate::Sound;
 use volume::words::{FREE_HEAD, FREE_TAIL, NEXT, NUMBER_FREE};
 
-// How many blocks are free.
-pub fn room(img: &[u8], p: Partition) -> usize
-    requires { Opens p img.now }
-    ensures { result ≡ room p (view img.now) }
-{
-    image::pair(img, p.s, NUMBER_FREE)
-}
+impl Sound<'_> {
+    // How many blocks are free.
+    #[tactic(auto, using(crate::proofs::Laws::room_is))]
+    pub fn room(&self) -> usize
+        ensures { result ≡ room self.now.volume.p (view self.now.volume.img.now) }
+    {
+        image::pair(self.volume.img, self.volume.p.s, NUMBER_FREE)
+    }
 
-// The first free block.
-pub fn head(img: &[u8], p: Partition) -> usize
-    requires { Opens p img.now }
-    ensures { (result ≡ free_head p (view img.now)) × (Block img.now result) }
-{
-    drive::lda_block(p.drive, image::pair(img, p.s, FREE_HEAD))
-}
+    // The first free block.
+    #[tactic(auto, using(crate::proofs::Laws::block_head))]
+    pub fn head(&self) -> usize
+        ensures { (result ≡ free_head self.now.volume.p (view self.now.volume.img.now)) × (Block self.now.volume.img.now result) }
+    {
+        let volume = &self.volume;
+        drive::lda_block(
+            volume.p.drive,
+            image::pair(volume.img, volume.p.s, FREE_HEAD),
+        )
+    }
 
-// The last free block.
-pub fn tail(img: &[u8], p: Partition) -> usize
-    requires { Opens p img.now }
-    ensures { (result ≡ free_tail p (view img.now)) × (Block img.now result) }
-{
-    drive::lda_block(p.drive, image::pair(img, p.s, FREE_TAIL))
+    // The last free block.
+    #[tactic(auto, using(crate::proofs::Laws::block_tail))]
+    pub fn tail(&self) -> usize
+        ensures { (result ≡ free_tail self.now.volume.p (view self.now.volume.img.now)) × (Block self.now.volume.img.now result) }
+    {
+        let volume = &self.volume;
+        drive::lda_block(
+            volume.p.drive,
+            image::pair(volume.img, volume.p.s, FREE_TAIL),
+        )
+    }
 }
 
 // The block that the next link of block b names.

@@ -1,5 +1,6 @@
 -- An image of bytes with a good partition. Lawful stores keep it one, with the same partition, and do to its view what they say.
-use Rattle.std.specs.Prelude.{◌≡◌, refl, List, [], ◌∷◌, ◌++◌, ℕ, zero, suc, ◌+◌, ◌-◌, ◌*◌, ◌/◌, ◌≤◌, leb, ltb, take, drop, length}
+use Rattle.std.specs.Prelude.{◌≡◌, refl, List, [], ◌∷◌, ◌++◌, ℕ, zero, suc, ◌+◌, ◌-◌, ◌*◌, ◌/◌, ◌≤◌, leb, ltb, take, drop, length, Result, Ok, Err}
+use Rattle.base.specs.declared.Refusal.{Refusal}
 use Rattle.std.proofs.Common.{ap, ap₂, ◌∙◌, arith}
 use Rattle.base.specs.Tests.{pick, every}
 use Rattle.drive.specs.Address.{lda_block, is_lda}
@@ -13,8 +14,6 @@ use Rattle.volume.specs.Words.{partition_end_at, partition_start_at}
 use Rattle.volume.specs.Answers.{image_good, part_good, end_of, partition}
 use Rattle.volume.specs.Reads.{Lies}
 use Rattle.volume.proofs.Readings.{lies, good_part}
-use Rattle.volume.specs.declared.Part.{Part}
-use Rattle.volume.specs.declared.Part.TheVariants as part
 use Rattle.frame.specs.Fitting.{view_fits}
 use Rattle.crash.specs.Lawful.{Placed, Lawful, fixed_from}
 
@@ -57,17 +56,17 @@ pub same_partition : (d s : ℕ) (l l' : List ℕ) → length l ≡ length l' �
 unfolding partition part_good end_of
 same_partition d s l l' n x y = ap₂ (λ (m a : ℕ). F m a (pair (view l) s partition_end_at)) n x ∙ ap (F (length l') (pair (view l') s partition_start_at)) y
   where
-    F : ℕ → ℕ → ℕ → Part
+    F : ℕ → ℕ → ℕ → Result ℕ Refusal
     F m a b =
         pick (image_good d m)
         (pick (every (leb 1 s ∷ ltb s (m / 528) ∷ is_lda d a s ∷ is_lda d b (lda_block d b) ∷ ltb s (lda_block d b) ∷ ltb (lda_block d b) (m / 528) ∷ leb (lda_block d b - s + 1) 32767 ∷ []))
-        (part.Good (lda_block d b)) (part.Refused BadPartition))
-        (part.Refused BadImage)
+        (Ok (lda_block d b)) (Err BadPartition))
+        (Err BadImage)
 
 -- ---- an image that holds partition π
 
 pub record Held (π : Partition) (l : List ℕ) : Type 0 where
-  pub good : partition π.drive l π.s ≡ part.Good π.e
+  pub good : partition π.drive l π.s ≡ Ok π.e
   pub bytes : Bytes l
 
 whole_of : (π : Partition) (v : View) (n : ℕ) → 528 * π.e + 528 ≤ n → (ss : List Store) → Each (Lawful π v) ss → Whole n ss

@@ -1,7 +1,7 @@
 -- Beside demand 3, each a law with a name, of images: a whole call keeps a partition sound; images stay images; a refused call leaves
 -- the image alone; a call that is done has its effect; repair leaves what check accepts, and repairing again changes no byte; no cut
 -- makes a malformed candidate; free blocks and what the files need are m - 1.
-use Rattle.std.specs.Prelude.{◌≡◌, refl, ◌≢◌, List, [], Bool, true, false, ℕ, zero, suc, ◌+◌, ◌-◌, ◌*◌, ◌/◌, ◌<◌, leb, ltb, eqb, take, length}
+use Rattle.std.specs.Prelude.{◌≡◌, refl, ◌≢◌, List, [], Bool, true, false, ℕ, zero, suc, ◌+◌, ◌-◌, ◌*◌, ◌/◌, ◌<◌, leb, ltb, eqb, take, length, Option, Some, None, Result, Ok, Err}
 use Rattle.std.proofs.Common.{sym, ap, ap₂, ◌∙◌, subst, true≢false, arith}
 use Rattle.std.proofs.Math.Path.{fun_ext}
 use Rattle.std.proofs.lemmas.Bool.{eqb-false}
@@ -9,6 +9,7 @@ use Rattle.base.specs.Tests.{pick, count}
 use Rattle.image.specs.View.{View, Store, after, pair}
 use Rattle.image.specs.Image.{view, view_settles}
 use Rattle.image.specs.Stores.{stored}
+use Rattle.volume.specs.declared.Unfit.TheVariants.{Length, Name}
 use Rattle.volume.specs.Files.{partition_of, unowned, block_at, candidate, len, is_file, sound}
 use Rattle.volume.specs.declared.Partition.{Partition}
 use Rattle.volume.proofs.Frame.{Clean, of_clean, clean_of}
@@ -22,13 +23,7 @@ use Rattle.volume.specs.Words.{number_free_at}
 use Rattle.volume.specs.Keys.{reach}
 use Rattle.volume.specs.Answers.{end_of, partition, lowest_malformed, checked, check_in, check_clean, tallied, in_partition}
 use Rattle.volume.specs.Calls.{Call, create, write, describe, destroy, repair, Planned, refuse, finish, planned, lending, lent_block, lent_text, through, unmarred, create_in, append_in, write_in, describe_in, destroy_in, repair_in, room}
-use Rattle.volume.specs.declared.Lent.{Lent}
-use Rattle.volume.specs.declared.Lent.TheVariants.{Fine, WrongLength, WrongName}
-use Rattle.volume.specs.declared.Found.{Found}
-use Rattle.volume.specs.declared.Found.TheVariants.{At, Nothing}
-use Rattle.volume.specs.declared.Part.{Part}
-use Rattle.volume.specs.declared.Part.TheVariants as part
-use Rattle.volume.specs.declared.Outcome.TheVariants.{Done, Refused}
+use Rattle.volume.specs.Outcome.{Lent}
 use Rattle.frame.proofs.Restart as restart
 use Rattle.frame.proofs.Mended.{sound_is}
 use Rattle.crash.proofs.Settled.{Settled, refused, done}
@@ -66,18 +61,18 @@ either : (t : Bool) {x y : Planned} → Comes x → Comes y → Comes (pick t x 
 either true h k = h
 either false h k = k
 
-unmarred_comes : (m : Found) (x : Planned) → Comes x → Comes (unmarred m x)
-unmarred_comes (At f) x h = refuses (Malformed f)
-unmarred_comes Nothing x h = h
+unmarred_comes : (m : Option ℕ) (x : Planned) → Comes x → Comes (unmarred m x)
+unmarred_comes (Some f) x h = refuses (Malformed f)
+unmarred_comes None x h = h
 
-part_comes : (x : Part) (k : ℕ → Planned) → ((e : ℕ) → Comes (k e)) → Comes (in_partition refuse x k)
-part_comes (part.Good e) k h = h e
-part_comes (part.Refused y) k h = refuses y
+part_comes : (x : Result ℕ Refusal) (k : ℕ → Planned) → ((e : ℕ) → Comes (k e)) → Comes (in_partition refuse x k)
+part_comes (Ok e) k h = h e
+part_comes (Err y) k h = refuses y
 
 lending_comes : (x : Lent) (k : Planned) → Comes k → Comes (lending x k)
-lending_comes Fine k h = h
-lending_comes WrongLength k h = refuses BadBuffer
-lending_comes WrongName k h = refuses BadName
+lending_comes (Ok u) k h = h
+lending_comes (Err Length) k h = refuses BadBuffer
+lending_comes (Err Name) k h = refuses BadName
 
 through_comes : (d : ℕ) (l : List ℕ) (s : ℕ) (lent : Lent) (k : Partition → Planned) → ((π : Partition) → Comes (k π)) → Comes (through d l s lent k)
 unfolding through
@@ -86,12 +81,12 @@ through_comes d l s lent k h = part_comes (partition d l s) _ (λ e. lending_com
 
 comes : (d s : ℕ) (l : List ℕ) (c : Call) → Comes (planned d l s c)
 unfolding planned create_in append_in write_in describe_in destroy_in repair_in
-comes d s l (create kind) = through_comes d l s Fine _ (λ π. either (leb (room π (view l)) 1) (refuses Full) (does _ _))
+comes d s l (create kind) = through_comes d l s (Ok tt) _ (λ π. either (leb (room π (view l)) 1) (refuses Full) (does _ _))
 comes d s l (write f r block) = through_comes d l s (lent_block block) _ (λ π. either (candidate π (view l) f)
     (either (ltb r reach) (either (ltb r (len (view l) f)) (does _ _) (either (eqb r (len (view l) f)) (either (leb (room π (view l)) (needs π (view l) f r)) (refuses Full) (does _ _)) (refuses BadBlock))) (refuses BadBlock))
     (refuses NoCandidate))
 comes d s l (describe f text) = through_comes d l s (lent_text text) _ (λ π. either (candidate π (view l) f) (does _ _) (refuses NoCandidate))
-comes d s l (destroy f) = through_comes d l s Fine _ (λ π. either (candidate π (view l) f) (does _ _) (refuses NoCandidate))
+comes d s l (destroy f) = through_comes d l s (Ok tt) _ (λ π. either (candidate π (view l) f) (does _ _) (refuses NoCandidate))
 comes d s l repair = part_comes (partition d l s) _ (λ e. unmarred_comes (lowest_malformed (partition_of d s e) (view l)) _
     (either (eqb (length (unowned (partition_of d s e) (view l))) 0) (refuses NothingFree) (does _ _)))
 
@@ -129,10 +124,10 @@ effect d s l b a c p q =
 
 -- ---- no cut from a sound partition makes a malformed candidate
 
-pub cut_unmarred : (d s : ℕ) (l : List ℕ) → Image l → Accepted d s l → (c : Call) → Proper c → (k : ℕ) → lowest_malformed (here d s (stopped d s l c k)) (view (stopped d s l c k)) ≡ Nothing
+pub cut_unmarred : (d s : ℕ) (l : List ℕ) → Image l → Accepted d s l → (c : Call) → Proper c → (k : ℕ) → lowest_malformed (here d s (stopped d s l c k)) (view (stopped d s l c k)) ≡ None
 cut_unmarred d s l b a c p k =
     let y = accepted_sound d s l b a in
-    subst (λ (e : ℕ). lowest_malformed (partition_of d s e) (view (stopped d s l c k)) ≡ Nothing) (sym (end_is (stopped_held y.held y.is c p k)))
+    subst (λ (e : ℕ). lowest_malformed (partition_of d s e) (view (stopped d s l c k)) ≡ None) (sym (end_is (stopped_held y.held y.is c p k)))
     (of_clean _ _ (cut_clean y.held y.is c p k))
 
 -- ---- repair
@@ -152,13 +147,13 @@ mendable d s l b h = on (partition d l s) refl h
     last e true q k z = true≢false (sym k)
     last e false q k z = eqb-false (length (unowned (partition_of d s e) (view l))) 0 q (ap length z)
 
-    formed : (e : ℕ) → partition d l s ≡ part.Good e → (m : Found) → lowest_malformed (partition_of d s e) (view l) ≡ m → is_done (unmarred m (repair_in (partition_of d s e) (view l))).outcome ≡ true → Mendable d s l
-    formed e g (At f) q k = absurd (true≢false (sym k))
-    formed e g Nothing q k = record { end = e; held = record { good = g; bytes = b }; clean = clean_of (partition_of d s e) (view l) q; spare = last e (eqb (length (unowned (partition_of d s e) (view l))) 0) refl k }
+    formed : (e : ℕ) → partition d l s ≡ Ok e → (m : Option ℕ) → lowest_malformed (partition_of d s e) (view l) ≡ m → is_done (unmarred m (repair_in (partition_of d s e) (view l))).outcome ≡ true → Mendable d s l
+    formed e g (Some f) q k = absurd (true≢false (sym k))
+    formed e g None q k = record { end = e; held = record { good = g; bytes = b }; clean = clean_of (partition_of d s e) (view l) q; spare = last e (eqb (length (unowned (partition_of d s e) (view l))) 0) refl k }
 
-    on : (x : Part) → partition d l s ≡ x → is_done (in_partition refuse x (λ e. unmarred (lowest_malformed (partition_of d s e) (view l)) (repair_in (partition_of d s e) (view l)))).outcome ≡ true → Mendable d s l
-    on (part.Good e) g k = formed e g (lowest_malformed (partition_of d s e) (view l)) refl k
-    on (part.Refused y) g k = absurd (true≢false (sym k))
+    on : (x : Result ℕ Refusal) → partition d l s ≡ x → is_done (in_partition refuse x (λ e. unmarred (lowest_malformed (partition_of d s e) (view l)) (repair_in (partition_of d s e) (view l)))).outcome ≡ true → Mendable d s l
+    on (Ok e) g k = formed e g (lowest_malformed (partition_of d s e) (view l)) refl k
+    on (Err y) g k = absurd (true≢false (sym k))
 
 -- repair of any image, if it is not refused, leaves what check accepts
 pub repair_accepted : (d s : ℕ) (l : List ℕ) → Image l → is_done (planned d l s repair).outcome ≡ true → Accepted d s (whole d s l repair)
@@ -217,16 +212,16 @@ repair_again d s l b h = view_settles (whole d s m repair) m (length m / 528) (s
 -- check's three numbers: files, what they need, and NumberFree
 pub record Counted (d s : ℕ) (l : List ℕ) : Type 0 where
   pub files : ℕ
-  pub answer : checked d l s ≡ Done files (needed (here d s l) (view l)) (pair (view l) s number_free_at)
+  pub answer : checked d l s ≡ Ok (Some (files, needed (here d s l) (view l), pair (view l) s number_free_at))
   pub total : needed (here d s l) (view l) + pair (view l) s number_free_at ≡ end_of d (view l) s - s
 
 pub free_and_needed : (d s : ℕ) (l : List ℕ) → Image l → Accepted d s l → Counted d s l
 unfolding checked check_in tallied
 free_and_needed d s l b a = record {
   files = count (y.end - s) (λ i. is_file π (view l) (block_at π i));
-  answer = ap (λ (x : Part). in_partition Refused x (λ e. check_in (partition_of d s e) (view l))) y.held.good
-      ∙ ap (check_clean π (view l)) (of_clean π (view l) (sound_clean π (view l) y.is)) ∙ ap (λ (t : Bool). pick t (tallied π (view l)) (Refused Unsound)) y.is
-      ∙ ap₂ (λ (x z : ℕ). Done (count (y.end - s) (λ i. is_file π (view l) (block_at π i))) x z) (owned_needed π (view l) ∙ sym same) (sym (free_unowned π (view l) low y.is));
+  answer = ap (λ (x : Result ℕ Refusal). in_partition Err x (λ e. check_in (partition_of d s e) (view l))) y.held.good
+      ∙ ap (check_clean π (view l)) (of_clean π (view l) (sound_clean π (view l) y.is)) ∙ ap (λ (t : Bool). pick t (tallied π (view l)) (Err Unsound)) y.is
+      ∙ ap₂ (λ (x z : ℕ). Ok (Some (count (y.end - s) (λ i. is_file π (view l) (block_at π i)), x, z))) (owned_needed π (view l) ∙ sym same) (sym (free_unowned π (view l) low y.is));
   total = ap₂ (λ (x z : ℕ). x + z) same refl ∙ (let q = counts.free_and_needed π (view l) low y.is in let z : needed π (view l) + pair (view l) s number_free_at ≡ y.end - s = omega arith in z) ∙ ap (λ (e : ℕ). e - s) (sym (end_is y.held));
 }
   where

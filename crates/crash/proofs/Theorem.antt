@@ -1,5 +1,5 @@
 -- Demand 3, proved.
-use Rattle.std.specs.Prelude.{◌≡◌, refl, ◌≢◌, List, [], ◌∷◌, Bool, true, false, ℕ, ◌+◌, ltb, eqb, take, length}
+use Rattle.std.specs.Prelude.{◌≡◌, refl, ◌≢◌, List, [], ◌∷◌, Bool, true, false, ℕ, ◌+◌, ltb, eqb, take, length, Some}
 use Rattle.std.proofs.Common.{sym, ap, ◌∙◌, subst, true≢false, arith, eqb-true}
 use Rattle.std.proofs.lemmas.Bool.{eqb-false}
 use Rattle.base.specs.Tests.{pick}
@@ -12,7 +12,6 @@ use Rattle.volume.proofs.Frame.{Clean}
 use Rattle.volume.specs.Plans.{repair_stores}
 use Rattle.frame.proofs.Turn.{Each, each_take}
 use Rattle.volume.specs.Calls.{Call, create, write, describe, destroy, repair, Planned, planned, decided}
-use Rattle.volume.specs.declared.Found.TheVariants.{At}
 use Rattle.crash.specs.SameFile as views
 use Rattle.crash.proofs.SameFile.{file_trans, file_refl, file_same, same_bytes}
 use Rattle.crash.specs.Cut as cuts
@@ -149,17 +148,17 @@ module _ {π : Partition} {l : List ℕ} (h : Held π l) (ok : sound π (view l)
   stopped_view n = view_after h (take n steps) (each_take (Lawful π (view l)) n steps lawful)
 
   -- the files that it does not name
-  pub unnamed : (f : ℕ) → named π.drive π.s l c ≢ At f → views.SameFile π (view l) (after steps (view l)) f
+  pub unnamed : (f : ℕ) → named π.drive π.s l c ≢ Some f → views.SameFile π (view l) (after steps (view l)) f
   unnamed f n = go (eqb f (block h c)) refl
     where
       other : eqb f (block h c) ≡ false → views.SameFile π (view l) (after steps (view l)) f
       other q = whole_others (placed h) ok plan f (eqb-false f (block h c) q)
 
-      hit : (c : Call) → named π.drive π.s l c ≢ At f → f ≡ block h c → f ≡ 0
-      hit (create kind) n z = absurd (n (ap At (sym z)))
-      hit (write g r b) n z = absurd (n (ap At (sym z)))
-      hit (describe g t) n z = absurd (n (ap At (sym z)))
-      hit (destroy g) n z = absurd (n (ap At (sym z)))
+      hit : (c : Call) → named π.drive π.s l c ≢ Some f → f ≡ block h c → f ≡ 0
+      hit (create kind) n z = absurd (n (ap Some (sym z)))
+      hit (write g r b) n z = absurd (n (ap Some (sym z)))
+      hit (describe g t) n z = absurd (n (ap Some (sym z)))
+      hit (destroy g) n z = absurd (n (ap Some (sym z)))
       hit repair n z = z
 
       go : (t : Bool) → eqb f (block h c) ≡ t → views.SameFile π (view l) (after steps (view l)) f
@@ -209,7 +208,7 @@ module _ {π : Partition} {l : List ℕ} (h : Held π l) (ok : sound π (view l)
         vm : view (whole π.drive π.s l' repair) ≡ after (repair_stores π (view l')) (view l')
         vm = mended_view x.held y.clean y.spare
 
-        part : (t : Bool) (f : ℕ) → named π.drive π.s l c ≢ At f → views.SameFile π (view l) (pick t (after steps (view l)) (view l)) f
+        part : (t : Bool) (f : ℕ) → named π.drive π.s l c ≢ Some f → views.SameFile π (view l) (pick t (after steps (view l)) (view l)) f
         part true f q = unnamed f q
         part false f q = file_refl π (view l) f
 

@@ -1,5 +1,6 @@
 -- Repair of an all-zero partition with Start and End set makes a fresh one, proved.
-use Rattle.std.specs.Prelude.{◌≡◌, ◌≢◌, List, [], ◌∷◌, Bool, ℕ, zero, suc, ◌+◌, ◌-◌, ◌*◌, ◌/◌, ◌%◌, ◌≤◌, ◌<◌}
+use Rattle.std.specs.Prelude.{◌≡◌, ◌≢◌, List, [], ◌∷◌, Bool, ℕ, zero, suc, ◌+◌, ◌-◌, ◌*◌, ◌/◌, ◌%◌, ◌≤◌, ◌<◌, Some, Result, Ok, Err}
+use Rattle.base.specs.declared.Refusal.{Refusal}
 use Rattle.std.proofs.Math.Path.{refl, sym, ap}
 use Rattle.std.proofs.Common.{◌∙◌, subst, true≢false, arith}
 use Rattle.std.proofs.Math.Bool.{true, false, not}
@@ -13,6 +14,7 @@ use Rattle.drive.specs.Laws.{pda_pos}
 use Rattle.drive.proofs.Names.{nil_new}
 use Rattle.image.specs.View.{View, Rec, after, pair, put, put2, blank}
 use Rattle.image.specs.Image.{view}
+use Rattle.volume.specs.Outcome.{Outcome}
 use Rattle.volume.specs.Words.{serial_at, relative_at, filler_at, next_at, previous_at, free_head_at, free_tail_at, number_free_at, partition_start_at, partition_end_at}
 use Rattle.volume.specs.Files.{partition_of, inside, candidate, well_formed, is_file, owned, files, unowned, free, sound, block_at}
 use Rattle.volume.specs.declared.Partition.{Partition}
@@ -22,9 +24,6 @@ use Rattle.volume.specs.Table as table
 use Rattle.volume.specs.Plans.{as_filler, freed, repaired_pib, repair_plan, repair_stores}
 use Rattle.volume.specs.Answers.{partition, in_partition, checked, check_in, check_clean, tallied}
 use Rattle.volume.specs.Calls.{Planned, refuse, finish, repair, repair_in, planned}
-use Rattle.volume.specs.declared.Outcome.TheVariants.{Done, Refused}
-use Rattle.volume.specs.declared.Part.{Part}
-use Rattle.volume.specs.declared.Part.TheVariants as part
 use Rattle.frame.specs.Reading.{put2_off}
 use Rattle.frame.proofs.Mended.{mended_agree, free_is, sound_is}
 use Rattle.frame.specs.Repair.{repaired_free}
@@ -172,16 +171,16 @@ module _ (π : Partition) (x y : ℕ) (v : View) (z : Zeroed π x y v) where
       no_file_after : (f : ℕ) → is_file π mended f ≡ false
       no_file_after f = sym (agree_same π v _ clean (mended_agree π v clean) f).is ∙ no_file f
 
-      checks_after : check_in π mended ≡ Done 0 0 (π.e - π.s)
+      checks_after : check_in π mended ≡ Ok (Some (0, 0, π.e - π.s))
       unfolding check_in tallied
       checks_after =
           ap (check_clean π mended) (of_clean π mended (sound_clean π mended sound_after))
-          ∙ ap (λ (t : Bool). pick t (tallied π mended) (Refused Unsound)) sound_after
+          ∙ ap (λ (t : Bool). pick t (tallied π mended) (Err Unsound)) sound_after
           ∙ three (count_none _ (λ i. no_file_after (block_at π i)) (π.e - π.s)) (count_none _ (λ i. no_owner π mended no_file_after (block_at π i)) (π.e - π.s))
           (count_all _ (λ i. ap not (no_owner π mended no_file_after (block_at π i))) (π.e - π.s))
         where
-          three : {a b c a' b' c' : ℕ} → a ≡ a' → b ≡ b' → c ≡ c' → Done a b c ≡ Done a' b' c'
-          three x y w = λ i. Done (x i) (y i) (w i)
+          three : {a b c a' b' c' : ℕ} → a ≡ a' → b ≡ b' → c ≡ c' → ◌≡◌ {A = Outcome} (Ok (Some (a, b, c))) (Ok (Some (a', b', c')))
+          three x y w = λ i. Ok (Some (x i, y i, w i))
 
       few : 0 < π.e - π.s
       few = omega arith
@@ -259,20 +258,20 @@ unfolding zeroed table.zeroed
 worked_zeroed b l m = refl
 
 pub becomes_fresh : (π : Partition) (x y : ℕ) (v : View) → 1 ≤ π.s → π.s < π.e → Zeroed π x y v
-    → ((repair_in π v).outcome ≡ Done 0 0 0) × Fresh π x y (after (repair_in π v).list v)
+    → ((repair_in π v).outcome ≡ Ok (Some (0, 0, 0))) × Fresh π x y (after (repair_in π v).list v)
 becomes_fresh π x y v p g z =
     let q = done π x y v z g in
     (ap (λ (k : Planned). k.outcome) q, subst (λ (k : Planned). Fresh π x y (after k.list v)) (sym q) (fresh_after π x y v z g p))
 
 -- an image with a good partition that is all zero but for Start and End: repair is done, and check of what it leaves counts no file,
 -- no owned block and e - s free ones
-pub repaired_fresh : (d s e x y : ℕ) (l : List ℕ) → Image l → partition d l s ≡ part.Good e → Zeroed (partition_of d s e) x y (view l)
-    → ((planned d l s repair).outcome ≡ Done 0 0 0) × Fresh (partition_of d s e) x y (view (whole d s l repair)) × (checked d (whole d s l repair) s ≡ Done 0 0 (e - s))
+pub repaired_fresh : (d s e x y : ℕ) (l : List ℕ) → Image l → partition d l s ≡ Ok e → Zeroed (partition_of d s e) x y (view l)
+    → ((planned d l s repair).outcome ≡ Ok (Some (0, 0, 0))) × Fresh (partition_of d s e) x y (view (whole d s l repair)) × (checked d (whole d s l repair) s ≡ Ok (Some (0, 0, e - s)))
 unfolding checked
 repaired_fresh d s e x y l b q z = (
   ap (λ (k : Planned). k.outcome) (repair_is h c n),
   fresh,
-  ap (λ (k : Part). in_partition Refused k (λ (e : ℕ). check_in (partition_of d s e) (view (whole d s l repair)))) (mended_held h c n).good ∙ fresh.checks,
+  ap (λ (k : Result ℕ Refusal). in_partition Err k (λ (e : ℕ). check_in (partition_of d s e) (view (whole d s l repair)))) (mended_held h c n).good ∙ fresh.checks,
 )
   where
     π : Partition

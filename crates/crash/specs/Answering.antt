@@ -1,9 +1,8 @@
 -- Demand 3 in the calls' own terms: of images that calls turned into one another, each answering as its contract says. The count of
 -- stores made, which the stopped call answers, tells which of the two its file is.
-use Rattle.std.specs.Prelude.{◌≡◌, ◌≢◌, List, true, ℕ, ◌≤◌, ltb, length}
+use Rattle.std.specs.Prelude.{◌≡◌, ◌≢◌, List, true, ℕ, ◌≤◌, ltb, length, Some}
 use Rattle.base.specs.Tests.{pick}
 use Rattle.volume.specs.Calls.{Call, repair, planned, decided, Answered}
-use Rattle.volume.specs.declared.Found.TheVariants.{At}
 use Rattle.volume.specs.declared.Answer.{Answer}
 use Rattle.crash.specs.Statement.{Proper, is_done, Accepted, whole, SameFile, named}
 
@@ -23,5 +22,5 @@ module _ (d s : ℕ) where
   pub record Outlives (l : List ℕ) (c : Call) (a : Answer) (l' : List ℕ) (a' : Answer) : Type 0 where
     pub not_refused : is_done a'.outcome ≡ true
     pub accepted : Accepted d s l'
-    pub others : (f : ℕ) → named d s l c ≢ At f → SameFile d s l l' f
-    pub all_or_none : (f : ℕ) → named d s l c ≡ At f → SameFile d s (pick (ltb 0 (decided (planned d l s c).deciding a.made)) (whole d s l c) l) l' f
+    pub others : (f : ℕ) → named d s l c ≢ Some f → SameFile d s l l' f
+    pub all_or_none : (f : ℕ) → named d s l c ≡ Some f → SameFile d s (pick (ltb 0 (decided (planned d l s c).deciding a.made)) (whole d s l c) l) l' f

@@ -5,7 +5,8 @@
 -- end, is never refused, and check accepts the result. Every file but the one that the stopped call names or creates has the same blocks,
 -- bytes, kind and description as before that call. That one is wholly as before it, or wholly as after the whole call, by whether the
 -- deciding store was made; whether a file is there counts.
-use Rattle.std.specs.Prelude.{◌≡◌, ◌≢◌, Bool, true, false, List, [], ◌∷◌, ℕ, ◌<◌, ltb, take}
+use Rattle.volume.specs.Outcome.{Outcome}
+use Rattle.std.specs.Prelude.{◌≡◌, ◌≢◌, Bool, true, false, List, [], ◌∷◌, ℕ, ◌<◌, ltb, take, Option, Some, None, Ok, Err}
 use Rattle.base.specs.Tests.{pick}
 use Rattle.image.specs.Image.{view, Bytes}
 use Rattle.image.specs.Stores.{stored}
@@ -14,10 +15,6 @@ use Rattle.volume.specs.Files.{partition_of, is_file, len, present, spot, name, 
 use Rattle.volume.specs.declared.Partition.{Partition}
 use Rattle.volume.specs.Answers.{end_of, checked}
 use Rattle.volume.specs.Calls.{Call, create, write, describe, destroy, repair, planned, decided}
-use Rattle.volume.specs.declared.Found.{Found}
-use Rattle.volume.specs.declared.Found.TheVariants.{At, Nothing}
-use Rattle.volume.specs.declared.Outcome.{Outcome}
-use Rattle.volume.specs.declared.Outcome.TheVariants.{Done, Absent, Refused}
 
 -- an image is a list of bytes, each below 256; so is a buffer, of any length; a kind is any word
 abbrev pub Image : List ℕ → Type 0
@@ -36,9 +33,9 @@ AllProper (c ∷ cs) = Proper c × AllProper cs
 
 -- the answer is that of a call that was done
 abbrev pub is_done : Outcome → Bool
-is_done (Done a b c) = true
-is_done Absent = false
-is_done (Refused y) = false
+is_done (Ok (Some x)) = true
+is_done (Ok None) = false
+is_done (Err y) = false
 
 -- on drive d, the partition named by s
 module _ (d s : ℕ) where
@@ -85,19 +82,19 @@ module _ (d s : ℕ) where
     pub content : is_file_of l f ≡ true → SameContent l l' f
 
   -- the file that a call names, or creates: the first free block
-  abbrev pub named : List ℕ → Call → Found
-  named l (create kind) = At (free_head (here l) (view l))
-  named l (write f r block) = At f
-  named l (describe f text) = At f
-  named l (destroy f) = At f
-  named l repair = Nothing
+  abbrev pub named : List ℕ → Call → Option ℕ
+  named l (create kind) = Some (free_head (here l) (view l))
+  named l (write f r block) = Some f
+  named l (describe f text) = Some f
+  named l (destroy f) = Some f
+  named l repair = None
 
   -- call c was stopped after k stores of l, and stopped repairs made l' of that: what the next repair, run to its end, gives
   pub record Survives (l : List ℕ) (c : Call) (k : ℕ) (l' : List ℕ) : Type 0 where
     pub not_refused : is_done (planned d l' s repair).outcome ≡ true
     pub accepted : Accepted (whole l' repair)
-    pub others : (f : ℕ) → named l c ≢ At f → SameFile l (whole l' repair) f
-    pub all_or_none : (f : ℕ) → named l c ≡ At f → SameFile (pick (ltb 0 (decided (planned d l s c).deciding k)) (whole l c) l) (whole l' repair) f
+    pub others : (f : ℕ) → named l c ≢ Some f → SameFile l (whole l' repair) f
+    pub all_or_none : (f : ℕ) → named l c ≡ Some f → SameFile (pick (ltb 0 (decided (planned d l s c).deciding k)) (whole l c) l) (whole l' repair) f
 
 -- demand 3
 abbrev pub Demand3 : Type 0

@@ -1,6 +1,6 @@
 -- What an all-zero partition with Start and End set is, and the fresh one that repair makes of it: it is sound, has no file, and s+1, s+2,
 -- .. e are free in this order. On every drive, for every s and e, and whatever the reserved bits of Start and End.
-use Rattle.std.specs.Prelude.{◌≡◌, List, [], ℕ, suc, ◌-◌, ◌≤◌, ◌<◌, eqb}
+use Rattle.std.specs.Prelude.{◌≡◌, List, [], ℕ, suc, ◌-◌, ◌≤◌, ◌<◌, eqb, Some, Ok}
 use Rattle.std.proofs.Math.Bool.{true}
 use Rattle.base.specs.Tests.{pick, tab_from}
 use Rattle.drive.specs.Address.{lda}
@@ -10,7 +10,6 @@ use Rattle.volume.specs.Files.{files, free, sound}
 use Rattle.volume.specs.declared.Partition.{Partition}
 use Rattle.volume.specs.Plans.{as_filler}
 use Rattle.volume.specs.Answers.{check_in}
-use Rattle.volume.specs.declared.Outcome.TheVariants.{Done}
 
 -- the records of the partition: the PIB with x as Start and y as End, their reserved bits included, and blank ones
 abbrev pub zeroed_pib : ℕ → ℕ → Rec
@@ -31,7 +30,7 @@ pub record Fresh (π : Partition) (x y : ℕ) (v : View) : Type 0 where
   pub ok : sound π v ≡ true
   pub no_files : files π v ≡ []
   pub chain : free π v ≡ ascending π
-  pub checks : check_in π v ≡ Done 0 0 (π.e - π.s)
+  pub checks : check_in π v ≡ Ok (Some (0, 0, π.e - π.s))
   pub head : pair v π.s free_head_at ≡ lda π.drive (suc π.s)
   pub tail : pair v π.s free_tail_at ≡ lda π.drive π.e
   pub number : pair v π.s number_free_at ≡ π.e - π.s

@@ -15,7 +15,7 @@ use Rattle.volume.specs.declared.Partition.{Partition}
 use Rattle.volume.specs.Plans.{destroyed, destroy_plan, free_tail}
 use Rattle.volume.specs.Calls.{refuse, finish, destroy_in}
 use Rattle.inspect.specs.Parts.{Opened}
-use Rattle.inspect.proofs.Laws.{opened_least}
+use Rattle.inspect.proofs.Laws.{opened_least, opened_last}
 use Rattle.records.specs.Records.{Block, Destroys}
 use Rattle.change.specs.Gate.{Opens}
 use Rattle.change.proofs.Laws.{block_to, block_pib, block_fib, room_is, room_few}
@@ -35,6 +35,10 @@ module _ (π : Partition) (v : View) (f : ℕ) where
 -- the first key of an open file
 pub first_here : {π : Partition} {l : List ℕ} {f : ℕ} → Opened π l f → (k a : ℕ) → k ≡ len (view l) f → a ≡ low k → present π (view l) f a ≡ true
 first_here {π} {l} {f} o k a hk ha = ap (present π (view l) f) (ha ∙ ap low hk ∙ sym (least_closed π (view l) f o.formed)) ∙ opened_least o
+
+-- and the last
+pub last_here : {π : Partition} {l : List ℕ} {f : ℕ} → Opened π l f → (k : ℕ) → k ≡ len (view l) f → present π (view l) f (home + k) ≡ true
+last_here {π} {l} {f} o k hk = ap (λ (m : ℕ). present π (view l) f (home + m)) hk ∙ opened_last o
 
 pub destroys : {π : Partition} {l : List ℕ} → Opens π l → {f : ℕ} → candidate π (view l) f ≡ true
     → (n top last tail : ℕ) → n < 65536 → top ≤ π.e → last ≤ π.e → Block l tail → Destroys l π.s f n top last tail

@@ -1,6 +1,7 @@
 -- Directories (request 1), of the image's bytes l: names, the hash rule, what an entry is, look up of a path, the tree, and the answers
 -- of the two calls. docs/DIRECTORIES.md has the layout in words.
-use Rattle.std.specs.Prelude.{Bool, true, false, ◌||◌, List, [], ◌∷◌, ◌++◌, ℕ, zero, suc, ◌+◌, ◌-◌, ◌*◌, ◌/◌, ◌%◌, leb, ltb, eqb, length, get_or, take, drop, replicate}
+use Rattle.volume.specs.Outcome.{Outcome}
+use Rattle.std.specs.Prelude.{Bool, true, false, ◌||◌, List, [], ◌∷◌, ◌++◌, ℕ, zero, suc, ◌+◌, ◌-◌, ◌*◌, ◌/◌, ◌%◌, leb, ltb, eqb, length, get_or, take, drop, replicate, Option, Some, None, Result, Ok, Err}
 use Rattle.base.specs.Tests.{pick, both, every, all}
 use Rattle.base.specs.declared.Refusal.{Refusal}
 use Rattle.base.specs.declared.Refusal.TheVariants.{BadBuffer, NoCandidate, TooDeep}
@@ -11,16 +12,10 @@ use Rattle.volume.specs.Words.{data_offset, file_type_at, root_at}
 use Rattle.volume.specs.Files.{partition_of, is_file, len, name}
 use Rattle.volume.specs.declared.Partition.{Partition}
 use Rattle.volume.specs.Answers.{lowest, partition, in_partition}
-use Rattle.volume.specs.declared.Found.{Found}
-use Rattle.volume.specs.declared.Found.TheVariants.{At, Nothing}
-use Rattle.volume.specs.declared.Outcome.{Outcome}
-use Rattle.volume.specs.declared.Outcome.TheVariants as call
-use Rattle.directory.specs.declared.Met.{Met}
-use Rattle.directory.specs.declared.Met.TheVariants.{Skip, Taken}
-use Rattle.directory.specs.declared.Looked.{Looked}
-use Rattle.directory.specs.declared.Looked.TheVariants.{File, Dangling, Absent, Beyond}
-use Rattle.directory.specs.declared.Walk.{Walk}
-use Rattle.directory.specs.declared.Walk.TheVariants.{Going, Stopped, Deep}
+use Rattle.directory.specs.declared.Target.{Target}
+use Rattle.directory.specs.declared.Target.TheVariants.{File, Directory, Dangling}
+use Rattle.directory.specs.declared.Stop.{Stop}
+use Rattle.directory.specs.declared.Stop.TheVariants.{Full, Deep}
 
 -- ---- names
 
@@ -81,15 +76,15 @@ is_directory l f = eqb (view l f file_type_at) 3
 
 module _ (π : Partition) (l : List ℕ) where
   -- the file that x decodes to as an LDA
-  unfoldable pub file_at : ℕ → Found
-  file_at x = let t = lda_block π.drive x in pick (both (is_lda π.drive x t) (is_file π (view l) t)) (At t) Nothing
+  unfoldable pub file_at : ℕ → Option ℕ
+  file_at x = let t = lda_block π.drive x in pick (both (is_lda π.drive x t) (is_file π (view l) t)) (Some t) None
 
   -- the root directory, which is not asked for its type
-  abbrev pub root_of : Found
+  abbrev pub root_of : Option ℕ
   root_of = file_at (pair (view l) π.s root_at)
 
   -- the target of entry i of block b
-  abbrev pub target_of : ℕ → ℕ → Found
+  abbrev pub target_of : ℕ → ℕ → Option ℕ
   target_of b i = file_at (pair (view l) b (target_at i))
 
   -- where entry j of directory f stands, the entries counted through its blocks
@@ -97,16 +92,16 @@ module _ (π : Partition) (l : List ℕ) where
   place_of f j = entry_at (name π (view l) f (j / 16)) (j % 16)
 
 -- what an entry with this target is
-abbrev pub met_target : List ℕ → Found → Met
-met_target l (At t) = Taken (pick (is_directory l t) 1 0) t
-met_target l Nothing = Taken 2 0
+abbrev pub met_target : List ℕ → Option ℕ → Target
+met_target l (Some t) = pick (is_directory l t) (Directory t) (File t)
+met_target l None = Dangling
 
 module _ (π : Partition) (l : List ℕ) (sel : Selection) where
-  -- what entry j of directory f is
-  unfoldable pub met_at : ℕ → ℕ → Met
+  -- what entry j of directory f is, if it is taken
+  unfoldable pub met_at : ℕ → ℕ → Option Target
   met_at f j =
       let b = name π (view l) f (j / 16) in
-      pick (taken_at l sel (j / 16) (entry_at b (j % 16))) (met_target l (target_of π l b (j % 16))) Skip
+      pick (taken_at l sel (j / 16) (entry_at b (j % 16))) (Some (met_target l (target_of π l b (j % 16)))) None
 
 -- ---- look up
 
@@ -115,27 +110,21 @@ unfoldable pub part_end : List ℕ → ℕ → ℕ → ℕ
 part_end path p zero = p
 part_end path p (suc k) = elim (eqb (get_or path p 0) 62) [ true ↦ p | false ↦ part_end path (p + 1) k ]
 
-abbrev pub as_looked : Found → Looked
-as_looked (At t) = File t
-as_looked Nothing = Dangling
+-- what a path leads to: its target, if there is one; or down into a directory of the tenth level
+abbrev pub Looked : Type 0
+Looked = Result (Option Target) ℕ
 
--- a file t that a part of a path names: the rest of the path in it, if there is more and t is a directory
-abbrev pub follow : (ℕ → Looked) → ℕ → Bool → Bool → Looked
-follow k t true true = k t
-follow k t true false = Absent
-follow k t false dir = File t
+-- the rest of a path, which k looks up in a directory, in what its first part came to: anything else has no entries
+abbrev pub into : (ℕ → Looked) → Option Target → Looked
+into k (Some (Directory t)) = k t
+into k (Some (File t)) = Ok None
+into k (Some Dangling) = Ok None
+into k None = Ok None
 
--- the rest of a path, if there is more of it, in what its first part came to
-abbrev pub onward : List ℕ → (ℕ → Looked) → Bool → Looked → Looked
-onward l k more (File t) = follow k t more (is_directory l t)
-onward l k more Dangling = pick more Absent Dangling
-onward l k more Absent = Absent
-onward l k more (Beyond f) = Beyond f
-
--- what the entry found in directory f is: a file, dangling, or absent
-abbrev pub entered_at : Partition → List ℕ → ℕ → Found → Looked
-entered_at π l f (At j) = as_looked (target_of π l (name π (view l) f (j / 16)) (j % 16))
-entered_at π l f Nothing = Absent
+-- what the entry found in directory f is
+abbrev pub entered_at : Partition → List ℕ → ℕ → Option ℕ → Option Target
+entered_at π l f (Some j) = Some (met_target l (target_of π l (name π (view l) f (j / 16)) (j % 16)))
+entered_at π l f None = None
 
 module _ (π : Partition) (l : List ℕ) (sel : Selection) where
   -- entry j of f is taken and has the name
@@ -143,22 +132,23 @@ module _ (π : Partition) (l : List ℕ) (sel : Selection) where
   hit part f j = both (taken_at l sel (j / 16) (place_of π l f j)) (same_name (name_at l (place_of π l f j)) part)
 
   -- the first entry of f with the name
-  unfoldable pub find : List ℕ → ℕ → Found
+  unfoldable pub find : List ℕ → ℕ → Option ℕ
   find part f = lowest (hit part f) 0 (16 * len (view l) f)
 
-  unfoldable pub entered : List ℕ → ℕ → Looked
+  unfoldable pub entered : List ℕ → ℕ → Option Target
   entered part f = entered_at π l f (find part f)
 
   -- the path from p on, in directory f with d levels left, this one counted
   unfoldable pub look : ℕ → List ℕ → ℕ → ℕ → Looked
-  look zero path p f = Beyond f
+  look zero path p f = Err f
   look (suc d) path p f =
       let q = part_end path p (length path - p) in
-      onward l (look d path (q + 1)) (ltb q (length path)) (entered (take (q - p) (drop p path)) f)
+      let x = entered (take (q - p) (drop p path)) f in
+      pick (ltb q (length path)) (into (look d path (q + 1)) x) (Ok x)
 
   -- a path from the root down, which is the first of nine levels; the empty path is the root
   unfoldable pub look_from : ℕ → List ℕ → Looked
-  look_from root path = pick (eqb (length path) 0) (File root) (look 9 path 0 root)
+  look_from root path = pick (eqb (length path) 0) (Ok (Some (Directory root))) (look 9 path 0 root)
 
 -- ---- the tree
 
@@ -167,14 +157,31 @@ pub data Item : Type 0 where
   row : List ℕ → Item
   tenth : ℕ → Item
 
+-- the LBN of a target, 0 if it dangles, and the number in a row for what it is
+abbrev pub block_of : Target → ℕ
+block_of (File t) = t
+block_of (Directory t) = t
+block_of Dangling = 0
+
+abbrev pub what_of : Target → ℕ
+what_of (File t) = 0
+what_of (Directory t) = 1
+what_of Dangling = 2
+
 -- a row: the target's LBN, level, what, length of the name, the name, zeros
 unfoldable pub row_of : ℕ → ℕ → ℕ → List ℕ → List ℕ
 row_of t level what x = (t % 256 ∷ t / 256 % 256 ∷ t / 65536 % 256 ∷ t / 16777216 % 256 ∷ level ∷ what ∷ length x ∷ []) ++ (x ++ replicate (25 - length x) 0)
 
--- an entry, which stands at `at`: its row, and behind that of a directory what lies in it
-abbrev pub items_of : List ℕ → (ℕ → List Item) → ℕ → ℕ → Met → List Item
-items_of l below level at Skip = []
-items_of l below level at (Taken what t) = row (row_of t level what (name_at l at)) ∷ pick (eqb what 1) (below t) []
+-- what lies in a target: in a directory its entries
+abbrev pub inside_of : (ℕ → List Item) → Target → List Item
+inside_of below (File t) = []
+inside_of below (Directory t) = below t
+inside_of below Dangling = []
+
+-- an entry with this target, which stands at `at`: its row, and behind that of a directory what lies in it
+abbrev pub items_of : List ℕ → (ℕ → List Item) → ℕ → ℕ → Option Target → List Item
+items_of l below level at None = []
+items_of l below level at (Some target) = row (row_of (block_of target) level (what_of target) (name_at l at)) ∷ inside_of below target
 
 module _ (π : Partition) (l : List ℕ) (sel : Selection) where
   -- the c entries of f from j on
@@ -187,11 +194,15 @@ module _ (π : Partition) (l : List ℕ) (sel : Selection) where
   tree zero f = tenth f ∷ []
   tree (suc d) f = entries (tree d) (9 - d) f 0 (16 * len (view l) f)
 
+-- how many rows a walk fills, or why it ended early
+abbrev pub Walk : Type 0
+Walk = Result ℕ Stop
+
 -- what a walk comes to that has filled n of m rows: it goes as far as there are rows
 unfoldable pub walked : ℕ → List Item → ℕ → Walk
-walked m [] n = Going n
-walked m (row r ∷ is) n = elim (ltb n m) [ true ↦ walked m is (n + 1) | false ↦ Stopped n ]
-walked m (tenth f ∷ is) n = Deep f
+walked m [] n = Ok n
+walked m (row r ∷ is) n = elim (ltb n m) [ true ↦ walked m is (n + 1) | false ↦ Err (Full n) ]
+walked m (tenth f ∷ is) n = Err (Deep f)
 
 -- the bytes of the rows of such a walk, with room for m
 unfoldable pub fitting : ℕ → List Item → List ℕ
@@ -203,20 +214,21 @@ fitting (suc m) (tenth f ∷ is) = []
 -- ---- the call look up: 1, 2, 3, 6, 11
 
 abbrev pub looked_as : Looked → Outcome
-looked_as (File t) = call.Done t 0 0
-looked_as Dangling = call.Done 0 1 0
-looked_as Absent = call.Absent
-looked_as (Beyond f) = call.Refused (TooDeep f)
+looked_as (Ok (Some (File t))) = Ok (Some (t, 0, 0))
+looked_as (Ok (Some (Directory t))) = Ok (Some (t, 0, 0))
+looked_as (Ok (Some Dangling)) = Ok (Some (0, 1, 0))
+looked_as (Ok None) = Ok None
+looked_as (Err f) = Err (TooDeep f)
 
-abbrev pub look_root : Partition → List ℕ → List ℕ → List ℕ → Found → Outcome
-look_root π l rule path (At root) = looked_as (look_from π l (selected rule) root path)
-look_root π l rule path Nothing = call.Refused NoCandidate
+abbrev pub look_root : Partition → List ℕ → List ℕ → List ℕ → Option ℕ → Outcome
+look_root π l rule path (Some root) = looked_as (look_from π l (selected rule) root path)
+look_root π l rule path None = Err NoCandidate
 
 unfoldable pub look_in : Partition → List ℕ → List ℕ → List ℕ → Outcome
-look_in π l rule path = pick (is_rule rule) (look_root π l rule path (root_of π l)) (call.Refused BadBuffer)
+look_in π l rule path = pick (is_rule rule) (look_root π l rule path (root_of π l)) (Err BadBuffer)
 
 unfoldable pub look_up : ℕ → List ℕ → ℕ → List ℕ → List ℕ → Outcome
-look_up d l s rule path = in_partition call.Refused (partition d l s) (λ e. look_in (partition_of d s e) l rule path)
+look_up d l s rule path = in_partition Err (partition d l s) (λ e. look_in (partition_of d s e) l rule path)
 
 -- ---- the call tree: 1, 2, 3, 6, 11; what it comes to, and the bytes that it lays over the caller's rows, none under a refusal
 
@@ -225,20 +237,20 @@ pub record Treed : Type 0 where
   pub rows : List ℕ
 
 abbrev pub refused_tree : Refusal → Treed
-refused_tree y = record { outcome = call.Refused y; rows = [] }
+refused_tree y = record { outcome = Err y; rows = [] }
 
 -- how many rows n bytes are; an answer counts no more than 32 bits hold
 unfoldable pub most_rows : ℕ → ℕ
 most_rows n = pick (ltb (n / 32) 4294967295) (n / 32) 4294967295
 
 abbrev pub walked_as : Walk → List ℕ → Treed
-walked_as (Going n) x = record { outcome = call.Done n 0 0; rows = x }
-walked_as (Stopped n) x = record { outcome = call.Done n 1 0; rows = x }
-walked_as (Deep f) x = refused_tree (TooDeep f)
+walked_as (Ok n) x = record { outcome = Ok (Some (n, 0, 0)); rows = x }
+walked_as (Err (Full n)) x = record { outcome = Ok (Some (n, 1, 0)); rows = x }
+walked_as (Err (Deep f)) x = refused_tree (TooDeep f)
 
-abbrev pub tree_root : Partition → List ℕ → List ℕ → ℕ → Found → Treed
-tree_root π l rule n (At root) = let is = tree π l (selected rule) 9 root in walked_as (walked (most_rows n) is 0) (fitting (most_rows n) is)
-tree_root π l rule n Nothing = refused_tree NoCandidate
+abbrev pub tree_root : Partition → List ℕ → List ℕ → ℕ → Option ℕ → Treed
+tree_root π l rule n (Some root) = let is = tree π l (selected rule) 9 root in walked_as (walked (most_rows n) is 0) (fitting (most_rows n) is)
+tree_root π l rule n None = refused_tree NoCandidate
 
 unfoldable pub tree_in : Partition → List ℕ → List ℕ → ℕ → Treed
 tree_in π l rule n = pick (both (is_rule rule) (eqb (n % 32) 0)) (tree_root π l rule n (root_of π l)) (refused_tree BadBuffer)

@@ -1,7 +1,7 @@
 -- One law for each way through the code that reads an entry.
-use Rattle.std.specs.Prelude.{◌≡◌, List, [], ◌∷◌, ℕ, ◌+◌, ◌-◌, ◌*◌, ◌/◌, ◌%◌, ◌≤◌, ◌<◌, eqb, length, get_or, take, drop}
+use Rattle.std.specs.Prelude.{◌≡◌, List, [], ◌∷◌, ℕ, ◌+◌, ◌-◌, ◌*◌, ◌/◌, ◌%◌, ◌≤◌, ◌<◌, eqb, length, get_or, take, drop, Option, Some, None}
 use Rattle.std.proofs.Math.Path.{refl, sym, ap}
-use Rattle.std.proofs.Common.{◌∙◌, add-one, mul-le-mul, rules}
+use Rattle.std.proofs.Common.{◌∙◌, subst, add-one, mul-le-mul, rules}
 use mathlib.Core.Bool.{Bool, true, false, not}
 use native.Mathlib.Omega.{arith}
 use borrow.Author.Tests.{lt-leb, le-leb, leb-true, ne_eqb, eq-eqb, eqb-true, not-true, not-false}
@@ -13,11 +13,10 @@ use Rattle.image.specs.Image.{view}
 use Rattle.volume.specs.Words.{file_type_at}
 use Rattle.volume.specs.Files.{is_file, name}
 use Rattle.volume.specs.declared.Partition.{Partition}
-use Rattle.volume.proofs.Steps.{every_no, and_true, Passed, pass_next, pass_fails, pass_end, ne_of, eq_of}
-use Rattle.volume.specs.declared.Found.{Found}
-use Rattle.volume.specs.declared.Found.TheVariants.{At, Nothing}
-use Rattle.directory.specs.Directory.{upper, same_name, Selection, weigh, hash, is_rule, selected, name_length, taken_at, is_directory, file_at, target_of, met_target, place_of, met_at}
-use Rattle.directory.specs.declared.Met.TheVariants.{Skip, Taken}
+use Rattle.volume.proofs.Steps.{every_no, and_true, ne_of, eq_of}
+use Rattle.directory.specs.Directory.{upper, same_name, Selection, weigh, hash, is_rule, selected, name_length, taken_at, is_directory, file_at, target_of, met_target, place_of, met_at, what_of}
+use Rattle.directory.specs.declared.Target.{Target}
+use Rattle.directory.specs.declared.Target.TheVariants.{File, Directory, Dangling}
 
 -- ---- capitals
 
@@ -37,26 +36,10 @@ pub ruleset uppers = (upper_low, upper_high, upper_letter, rules)
 
 -- ---- the same name
 
-abbrev pub same_at : List ℕ → List ℕ → ℕ → Bool
-same_at a b i = eqb (upper (get_or a i 0)) (upper (get_or b i 0))
-
 module _ (a b : List ℕ) where
-  pub same_short : (length a ≡ length b → ⊥) → false ≡ same_name a b
+  pub same_short : (length a ≡ length b → ⊥) → eqb (length a) (length b) ≡ same_name a b
   unfolding same_name both
   same_short h = rw (ne_eqb _ _ h, same_name, both)
-
-  pub same_starts : length a ≡ length b → Passed (same_at a b) (length a) 0 (same_name a b)
-  unfolding same_name both
-  same_starts h = record { each = λ j l. absurd (omega arith); is = rw (eq-eqb _ _ h, same_name, both) }
-
-  module _ (i x y : ℕ) (w : Bool) (s : Passed (same_at a b) (length a) i w) where
-    pub same_next : x ≡ upper (get_or a i 0) → y ≡ upper (get_or b i 0) → x ≡ y → Passed (same_at a b) (length a) (i + 1) w
-    same_next p q h = pass_next s refl (eq_of p q h)
-
-    pub same_fails : i < length a → x ≡ upper (get_or a i 0) → y ≡ upper (get_or b i 0) → (x ≡ y → ⊥) → false ≡ w
-    same_fails l p q h = pass_fails s l refl (ne_of p q h)
-
-pub ruleset sames = (same_short, same_starts, same_next, same_fails, pass_end, rules)
 
 -- ---- the rule
 
@@ -103,6 +86,8 @@ pub select_by : (rule x : List ℕ) (r h : ℕ) → 1 ≤ length rule → h ≡ 
 unfolding selected
 select_by rule x r h l q = rw (ne_eqb (length rule) 0 (λ z. absurd (omega arith)), selected, q)
 
+pub ruleset selects = (rule_long, select_any, select_by, rules)
+
 -- examples: the hash of "Ab" under weights 1, 2, 3 is (2 + 130 + 198) % 31; with no rule any block is selected
 pub example_hash : hash (1 ∷ 2 ∷ 3 ∷ []) (65 ∷ 98 ∷ []) ≡ 20
 unfolding hash weigh upper both
@@ -144,24 +129,24 @@ pub ruleset takes = (taken_even, taken_short, taken_long, taken_last, rules)
 -- ---- the target of an address
 
 module _ (π : Partition) (l : List ℕ) (x t : ℕ) (g : Bool) (p : t ≡ lda_block π.drive x) (q : g ≡ is_lda π.drive x t) where
-  pub target_odd : not g ≡ true → Nothing ≡ file_at π l x
+  pub target_odd : not g ≡ true → None ≡ file_at π l x
   unfolding file_at both
   target_odd h = rw (file_at, ← p, ← q, not-true g h, both)
 
-  known : (r : Bool) → r ≡ is_file π (view l) t → not g ≡ false → pick r (At t) Nothing ≡ file_at π l x
+  known : (r : Bool) → r ≡ is_file π (view l) t → not g ≡ false → pick r (Some t) None ≡ file_at π l x
   unfolding file_at both
   known r z h = rw (file_at, ← p, ← q, not-false g h, both, ← z)
 
-  pub target_file : (r : Bool) → r ≡ is_file π (view l) t → r ≡ true → not g ≡ false → At t ≡ file_at π l x
+  pub target_file : (r : Bool) → r ≡ is_file π (view l) t → r ≡ true → not g ≡ false → Some t ≡ file_at π l x
   target_file r z u h = rw u at (known r z h)
 
-  pub target_none : (r : Bool) → r ≡ is_file π (view l) t → r ≡ false → not g ≡ false → Nothing ≡ file_at π l x
+  pub target_none : (r : Bool) → r ≡ is_file π (view l) t → r ≡ false → not g ≡ false → None ≡ file_at π l x
   target_none r z u h = rw u at (known r z h)
 
 pub ruleset targets = (target_odd, target_file, target_none, rules)
 
 -- what fileAt answers is a file
-pub file_at_is : (π : Partition) (l : List ℕ) (x t : ℕ) → file_at π l x ≡ At t → is_file π (view l) t ≡ true
+pub file_at_is : (π : Partition) (l : List ℕ) (x t : ℕ) → file_at π l x ≡ Some t → is_file π (view l) t ≡ true
 unfolding file_at
 file_at_is π l x t h = go (both (is_lda π.drive x b) (is_file π (view l) b)) refl
   where
@@ -179,28 +164,52 @@ directory_as l f i q = ap (λ (z : ℕ). eqb z 3) q
 
 -- ---- what an entry is
 
+-- what a target is, by the file that the address decodes to
+module _ (π : Partition) (l : List ℕ) (b i : ℕ) {w : ℕ} {x : Option ℕ} (u : w ≡ pair (view l) b (9 + 16 * i)) (k : x ≡ file_at π l w) where
+  is_target : met_target l x ≡ met_target l (target_of π l b i)
+  is_target = ap (met_target l) (k ∙ ap (file_at π l) u)
+
+  pub target_dangles : x ≡ None → Dangling ≡ met_target l (target_of π l b i)
+  target_dangles y = rw y at is_target
+
+  pub target_directory : {t : ℕ} {d : Bool} → x ≡ Some t → d ≡ is_directory l t → d ≡ true → Directory t ≡ met_target l (target_of π l b i)
+  target_directory y v c = rw (← v, c) at (rw y at is_target)
+
+  pub target_plain : {t : ℕ} {d : Bool} → x ≡ Some t → d ≡ is_directory l t → d ≡ false → File t ≡ met_target l (target_of π l b i)
+  target_plain y v c = rw (← v, c) at (rw y at is_target)
+
+pub ruleset aims = (target_dangles, target_directory, target_plain, rules)
+
 module _ (π : Partition) (l : List ℕ) (sel : Selection) (f j b : ℕ) (q : b ≡ name π (view l) f (j / 16)) (a : Bool) (z : a ≡ taken_at l sel (j / 16) (528 * b + 16 + 32 * (j % 16))) where
-  pub met_skip : a ≡ false → Skip ≡ met_at π l sel f j
+  pub met_skip : a ≡ false → None ≡ met_at π l sel f j
   unfolding met_at
   met_skip h = rw (met_at, ← q, ← z, h)
 
-  is_met : (x : Found) (w : ℕ) → a ≡ true → w ≡ pair (view l) b (9 + 16 * (j % 16)) → x ≡ file_at π l w → met_target l x ≡ met_at π l sel f j
+  pub met_takes : {t : Target} → a ≡ true → t ≡ met_target l (target_of π l b (j % 16)) → Some t ≡ met_at π l sel f j
   unfolding met_at
-  is_met x w h u k = rw (met_at, ← q, ← z, h) (ap (met_target l) (k ∙ ap (file_at π l) u))
+  met_takes h u = rw (met_at, ← q, ← z, h) (ap (λ (t : Target). Some t) u)
 
-  pub met_dangling : (x : Found) (w : ℕ) → a ≡ true → w ≡ pair (view l) b (9 + 16 * (j % 16)) → x ≡ file_at π l w → x ≡ Nothing → Taken 2 0 ≡ met_at π l sel f j
-  met_dangling x w h u k y = rw y at (is_met x w h u k)
+pub ruleset mets = (met_skip, met_takes, not-true, not-false, rules)
 
-  pub met_directory : (x : Found) (w t : ℕ) (i : Bool) → a ≡ true → w ≡ pair (view l) b (9 + 16 * (j % 16)) → x ≡ file_at π l w → x ≡ At t → i ≡ is_directory l t → i ≡ true → Taken 1 t ≡ met_at π l sel f j
-  met_directory x w t i h u k y v c = rw (← v, c) at (rw y at (is_met x w h u k))
+-- a target that is no file dangles
+abbrev pub Lands : Partition → List ℕ → Target → Type 0
+Lands π l (File t) = is_file π (view l) t ≡ true
+Lands π l (Directory t) = is_file π (view l) t ≡ true
+Lands π l Dangling = Unit {0}
 
-  pub met_file : (x : Found) (w t : ℕ) (i : Bool) → a ≡ true → w ≡ pair (view l) b (9 + 16 * (j % 16)) → x ≡ file_at π l w → x ≡ At t → i ≡ is_directory l t → i ≡ false → Taken 0 t ≡ met_at π l sel f j
-  met_file x w t i h u k y v c = rw (← v, c) at (rw y at (is_met x w h u k))
+pub target_lands : (π : Partition) (l : List ℕ) (w : ℕ) → Lands π l (met_target l (file_at π l w))
+target_lands π l w = go (file_at π l w) refl
+  where
+    kind : (t : ℕ) (u : Bool) → is_file π (view l) t ≡ true → Lands π l (pick u (Directory t) (File t))
+    kind t true h = h
+    kind t false h = h
 
-pub ruleset mets = (met_skip, met_dangling, met_directory, met_file, not-true, not-false, rules)
+    go : (x : Option ℕ) → file_at π l w ≡ x → Lands π l (met_target l x)
+    go (Some t) q = kind t (is_directory l t) (file_at_is π l w t q)
+    go None q = tt
 
 -- an entry that is met: its name is short, and a directory is a file
-module _ (π : Partition) (l : List ℕ) (sel : Selection) (f j what t : ℕ) (h : met_at π l sel f j ≡ Taken what t) where
+module _ (π : Partition) (l : List ℕ) (sel : Selection) (f j : ℕ) {x : Target} (h : met_at π l sel f j ≡ Some x) where
   pub met_taken : taken_at l sel (j / 16) (place_of π l f j) ≡ true
   unfolding met_at
   met_taken = go (taken_at l sel (j / 16) (place_of π l f j)) refl
@@ -212,24 +221,17 @@ module _ (π : Partition) (l : List ℕ) (sel : Selection) (f j what t : ℕ) (h
   pub met_short : name_length l (place_of π l f j) ≤ 25
   met_short = taken_fits l sel (j / 16) (place_of π l f j) met_taken
 
-  pub met_target_is : met_target l (target_of π l (name π (view l) f (j / 16)) (j % 16)) ≡ Taken what t
+  pub met_target_is : met_target l (target_of π l (name π (view l) f (j / 16)) (j % 16)) ≡ x
   unfolding met_at
-  met_target_is = rw (met_at, met_taken) at h
+  met_target_is = let z = rw (met_at, met_taken) at h in cc
 
-  pub met_is_file : what ≡ 1 → is_file π (view l) t ≡ true
-  met_is_file w = go (target_of π l (name π (view l) f (j / 16)) (j % 16)) refl
+  pub met_what : what_of x ≤ 2
+  met_what = go x
     where
-      go : (x : Found) → target_of π l (name π (view l) f (j / 16)) (j % 16) ≡ x → is_file π (view l) t ≡ true
-      go (At y) q = let z = rw q at met_target_is in let i : y ≡ t = cc in rw (← i) (file_at_is π l _ y q)
-      go Nothing q = let z = rw q at met_target_is in let i : ◌≡◌ {A = ℕ} 2 1 = (let k : 2 ≡ what = cc in k ∙ w) in absurd (omega arith)
+      go : (t : Target) → what_of t ≤ 2
+      go (File t) = omega arith
+      go (Directory t) = omega arith
+      go Dangling = omega arith
 
-  pub met_what : what ≤ 2
-  met_what = go (target_of π l (name π (view l) f (j / 16)) (j % 16)) met_target_is
-    where
-      kind : (u : Bool) → pick u 1 0 ≤ 2
-      kind true = omega arith
-      kind false = omega arith
-
-      go : (x : Found) → met_target l x ≡ Taken what t → what ≤ 2
-      go (At y) q = let k : pick (is_directory l y) 1 0 ≡ what = cc in rw (← k) (kind (is_directory l y))
-      go Nothing q = let k : 2 ≡ what = cc in omega arith
+  pub met_is_file : {t : ℕ} → x ≡ Directory t → is_file π (view l) t ≡ true
+  met_is_file d = subst (Lands π l) (met_target_is ∙ d) (target_lands π l _)

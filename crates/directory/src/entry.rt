@@ -1,17 +1,17 @@
 // An entry of a directory: whether it is taken, and what its target is. The root.
-ghost use Rattle.std.specs.Prelude.{◌≡◌, true, ◌+◌, ◌*◌, ◌≤◌, ◌<◌, length};
+ghost use Rattle.std.specs.Prelude.{◌≡◌, true, false, ◌+◌, ◌*◌, ◌≤◌, ◌<◌, length, MatchResult};
+ghost use Rattle.base.specs.declared.Refusal.TheVariants.{BadBuffer};
 ghost use Rattle.image.specs.Image.{view};
 ghost use Rattle.volume.specs.Files.{len};
-ghost use Rattle.volume.specs.Reads.{Lies};
-ghost use Rattle.inspect.specs.Parts.{Opened};
-ghost use Rattle.directory.specs.Directory.{upper, same_name, hash, is_rule, selected, taken_at, is_directory, file_at, root_of, met_at};
+ghost use Rattle.directory.specs.Directory.{upper, same_name, hash, is_rule, selected, taken_at, is_directory, file_at, root_of, target_of, met_target, met_at};
 
-use crate::Met;
+use crate::{Rule, Target};
+use base::Refusal;
+use inspect::{File, Volume};
 use volume::words::{FILE_TYPE, ROOT};
-use volume::{Found, Partition};
 
 // Where the target of a block's first entry stands, and the file type of a directory.
-pub const TARGET: usize = 9;
+const TARGET: usize = 9;
 
 const DIRECTORY: usize = 3;
 
@@ -23,6 +23,7 @@ pub const LENGTH: usize = 6;
 pub const NAME: usize = 7;
 
 // A letter as a capital.
+#[tactic(auto, using(crate::specs::Entries::uppers))]
 fn upper(c: u8) -> usize
     ensures { (result ≡ upper c) × (result < 256) }
 {
@@ -40,19 +41,11 @@ fn upper(c: u8) -> usize
 pub fn same(a: &[u8], b: &[u8]) -> bool
     ensures { result ≡ same_name a.now b.now }
 {
-    let n = a.len();
-    if n != b.len() {
-        return false;
-    }
-    for i in 0..n {
-        if upper(a[i]) != upper(b[i]) {
-            return false;
-        }
-    }
-    true
+    a.len() == b.len() && a.iter().zip(b).all(|(x, y)| upper(*x) == upper(*y))
 }
 
 // The product of two bytes.
+#[tactic(auto, using(crate::specs::Entries::product))]
 fn times(a: usize, b: usize) -> usize
     requires { (a < 256) × (b < 256) }
     ensures { (result ≡ a * b) × (result ≤ 65025) }
@@ -60,20 +53,8 @@ fn times(a: usize, b: usize) -> usize
     a * b
 }
 
-// The hash of a name under a rule of 26 weights.
-fn hash(rule: &[u8], x: &[u8]) -> usize
-    requires { (length rule.now ≡ 26) × (length x.now ≤ 25) }
-    ensures { result ≡ hash rule.now x.now }
-{
-    let n = x.len();
-    let mut sum = times(image::wide(rule[0]), n);
-    for i in 0..n {
-        sum += times(image::wide(rule[i + 1]), upper(x[i]));
-    }
-    sum % 31
-}
-
 // Whether n bytes may be a rule.
+#[tactic(auto, unfolding(crate::specs::Directory::is_rule))]
 pub fn is_rule(rule: &[u8]) -> bool
     ensures { result ≡ is_rule rule.now }
 {
@@ -81,62 +62,104 @@ pub fn is_rule(rule: &[u8]) -> bool
     (n == 0) | (n == 26)
 }
 
-// Whether the rule selects block r for a name.
-fn selected(rule: &[u8], x: &[u8], r: usize) -> bool
-    requires { (is_rule rule.now ≡ true) × (length x.now ≤ 25) }
-    ensures { result ≡ selected rule.now x.now r }
-{
-    if rule.len() < 1 {
-        return true;
+impl<'a> Rule<'a> {
+    // The rule that the bytes are.
+    pub fn of(weights: &'a [u8]) -> Result<Rule<'a>, Refusal>
+        ensures { MatchResult result (λ rule. (is_rule weights.now ≡ true) × (rule.weights.now ≡ weights.now)) (λ why. (is_rule weights.now ≡ false) × (why ≡ BadBuffer)) }
+    {
+        if is_rule(weights) {
+            Ok(Rule { weights })
+        } else {
+            Err(Refusal::BadBuffer)
+        }
     }
-    r % 31 == hash(rule, x)
-}
 
-// Whether the entry at a place of the image, in block r of its directory, is taken.
-pub fn taken(img: &[u8], rule: &[u8], r: usize, at: usize) -> bool
-    requires { (at + 32 ≤ length img.now) × (is_rule rule.now ≡ true) }
-    ensures { result ≡ taken_at img.now (selected rule.now) r at }
-{
-    if image::wide(img[at]) % 2 != 1 {
-        return false;
+    // The hash of a name. As a sum over a zip it was not proved: std asks beforehand that the sum fits, which only its own loop tells.
+    #[tactic(auto, using(crate::specs::Entries::weighs))]
+    fn hash(&self, x: &[u8]) -> usize
+        requires { (length self.now.weights.now ≡ 26) × (length x.now ≤ 25) }
+        ensures { result ≡ hash self.now.weights.now x.now }
+    {
+        let n = x.len();
+        let mut sum = times(image::wide(self.weights[0]), n);
+        for i in 0..n {
+            sum += times(image::wide(self.weights[i + 1]), upper(x[i]));
+        }
+        sum % 31
     }
-    let n = image::wide(img[at + LENGTH]);
-    if n < 1 {
-        return false;
+
+    // Whether block r is selected for a name.
+    #[tactic(auto, using(crate::specs::Entries::selects))]
+    fn selected(&self, x: &[u8], r: usize) -> bool
+        requires { length x.now ≤ 25 }
+        ensures { result ≡ selected self.now.weights.now x.now r }
+    {
+        if self.weights.len() < 1 {
+            return true;
+        }
+        r % 31 == self.hash(x)
     }
-    if 25 < n {
-        return false;
+
+    // Whether the entry at a place of the image, in block r of its directory, is taken.
+    #[tactic(auto, using(crate::specs::Entries::takes))]
+    pub fn taken(&self, img: &[u8], r: usize, at: usize) -> bool
+        requires { at + 32 ≤ length img.now }
+        ensures { result ≡ taken_at img.now (selected self.now.weights.now) r at }
+    {
+        if image::wide(img[at]) % 2 != 1 {
+            return false;
+        }
+        let n = image::wide(img[at + LENGTH]);
+        if n < 1 {
+            return false;
+        }
+        if 25 < n {
+            return false;
+        }
+        let from = at + NAME;
+        let end = from + n;
+        self.selected(&img[from..end], r)
     }
-    let from = at + NAME;
-    let end = from + n;
-    selected(rule, &img[from..end], r)
+
+    // The target of entry j of a directory, if the entry is taken.
+    #[tactic(auto, using(crate::specs::Entries::mets))]
+    pub fn met(&self, file: &File<'_>, j: usize) -> Option<Target>
+        requires { j < 16 * len (view file.now.volume.img.now) file.now.f }
+        ensures { result ≡ met_at file.now.volume.p file.now.volume.img.now (selected self.now.weights.now) file.now.f j }
+    {
+        let r = j / 16;
+        let i = j % 16;
+        let b = file.name(r);
+        let at = 528 * b + 16 + ENTRY * i;
+        if !self.taken(file.volume.img, r, at) {
+            return None;
+        }
+        Some(target_of(&file.volume, b, i))
+    }
 }
 
 // The file that x decodes to as an LDA, or none.
-pub fn file_at(img: &[u8], p: Partition, x: usize) -> Found
-    requires { (Lies p img.now) × (x < 4294967296) }
-    ensures { result ≡ file_at p img.now x }
+#[tactic(auto, using(crate::specs::Entries::targets))]
+pub fn file_at(volume: &Volume<'_>, x: usize) -> Option<usize>
+    requires { x < 4294967296 }
+    ensures { result ≡ file_at volume.now.p volume.now.img.now x }
 {
-    let t = drive::lda_block(p.drive, x);
-    if !drive::is_lda(p.drive, x, t) {
-        return Found::Nothing;
+    let t = drive::lda_block(volume.p.drive, x);
+    if !drive::is_lda(volume.p.drive, x, t) {
+        return None;
     }
-    if inspect::is_file(img, p, t) {
-        Found::At(t)
-    } else {
-        Found::Nothing
-    }
+    if volume.is_file(t) { Some(t) } else { None }
 }
 
 // The root directory.
-pub fn root(img: &[u8], p: Partition) -> Found
-    requires { Lies p img.now }
-    ensures { result ≡ root_of p img.now }
+pub fn root(volume: &Volume<'_>) -> Option<usize>
+    ensures { result ≡ root_of volume.now.p volume.now.img.now }
 {
-    file_at(img, p, image::pair(img, p.s, ROOT))
+    file_at(volume, image::pair(volume.img, volume.p.s, ROOT))
 }
 
 // Whether f is a directory by its file type.
+#[tactic(auto, using(crate::specs::Entries::directory_as))]
 pub fn is_directory(img: &[u8], f: usize) -> bool
     requires { 528 * f + 528 ≤ length img.now }
     ensures { result ≡ is_directory img.now f }
@@ -144,26 +167,20 @@ pub fn is_directory(img: &[u8], f: usize) -> bool
     image::word(img, f, FILE_TYPE) == DIRECTORY
 }
 
-// What entry j of directory f is.
-pub fn met(img: &[u8], p: Partition, rule: &[u8], f: usize, j: usize) -> Met
-    requires { (Opened p img.now f) × (j < 16 * len (view img.now) f) × (is_rule rule.now ≡ true) }
-    ensures { result ≡ met_at p img.now (selected rule.now) f j }
+// The target of entry i of block b.
+#[tactic(auto, using(crate::specs::Entries::aims))]
+pub fn target_of(volume: &Volume<'_>, b: usize, i: usize) -> Target
+    requires { (b ≤ volume.now.p.e) × (i < 16) }
+    ensures { result ≡ met_target volume.now.img.now (target_of volume.now.p volume.now.img.now b i) }
 {
-    let r = j / 16;
-    let i = j % 16;
-    let b = inspect::name(img, p, f, r);
-    if !taken(img, rule, r, 528 * b + 16 + ENTRY * i) {
-        return Met::Skip;
-    }
-    let x = file_at(img, p, image::pair(img, b, TARGET + 16 * i));
-    match x {
-        Found::At(t) => {
-            if is_directory(img, t) {
-                Met::Taken(1, t)
+    match file_at(volume, image::pair(volume.img, b, TARGET + 16 * i)) {
+        Some(t) => {
+            if is_directory(volume.img, t) {
+                Target::Directory(t)
             } else {
-                Met::Taken(0, t)
+                Target::File(t)
             }
         }
-        Found::Nothing => Met::Taken(2, 0),
+        None => Target::Dangling,
     }
 }

@@ -1,12 +1,11 @@
 -- What names a block by its LDA, whatever the reserved bits: the address test, and the address that is written over another one.
-use Rattle.std.specs.Prelude.{◌≡◌, refl, Bool, true, false, ℕ, ◌+◌, ◌-◌, ◌*◌, ◌/◌, ◌%◌, ◌<◌, ltb}
+use Rattle.std.specs.Prelude.{◌≡◌, refl, Bool, true, false, ℕ, ◌+◌, ◌-◌, ◌*◌, ◌/◌, ◌%◌, ◌<◌, ltb, Ok, Err}
 use Rattle.std.proofs.Common.{sym, ap, ◌∙◌, subst}
 use native.Mathlib.Omega.{arith}
 use borrow.Author.Tests.{eqb-true, eq-eqb}
 use Rattle.base.specs.Tests.{pick}
 use Rattle.base.specs.Laws.{both_left, both_right, both_of}
 use Rattle.base.specs.declared.Refusal.TheVariants.{BadImage, NoAddress}
-use Rattle.drive.specs.declared.Converted.TheVariants.{Number, Refused}
 use Rattle.drive.specs.Code.{place_number, guess, encode, decode}
 use Rattle.drive.specs.Rows.{lda_code}
 use Rattle.drive.specs.Address.{blocks, lda, lda_block, cleaned, is_lda, address}
@@ -104,10 +103,10 @@ pub record Numbered (d : ℕ) (good : Bool) (x y : ℕ) : Type 0 where
   pub good_one : good ≡ true
   pub is : x ≡ y
 
-pub numbered : (d : ℕ) (good : Bool) (x y : ℕ) → converted d good x ≡ Number y → Numbered d good x y
+pub numbered : (d : ℕ) (good : Bool) (x y : ℕ) → converted d good x ≡ Ok y → Numbered d good x y
 numbered d good x y = go (ltb 3 d) good refl refl
   where
-    go : (t u : Bool) → ltb 3 d ≡ t → good ≡ u → pick t (Refused BadImage) (pick u (Number x) (Refused NoAddress)) ≡ Number y → Numbered d good x y
+    go : (t u : Bool) → ltb 3 d ≡ t → good ≡ u → pick t (Err BadImage) (pick u (Ok x) (Err NoAddress)) ≡ Ok y → Numbered d good x y
     go true u p q e = let z : ◌≡◌ {A = ℕ} 0 1 = cc in absurd (omega arith)
     go false false p q e = let z : ◌≡◌ {A = ℕ} 0 1 = cc in absurd (omega arith)
     go false true p q e = record { known = p; good_one = q; is = cc }
@@ -118,24 +117,24 @@ pub record Converts (d x b : ℕ) : Type 0 where
   pub there : ltb b (blocks d) ≡ true
   pub names : is_lda d x b ≡ true
 
-pub converts : (d x b : ℕ) → lda_to_lbn d x ≡ Number b → Converts d x b
+pub converts : (d x b : ℕ) → lda_to_lbn d x ≡ Ok b → Converts d x b
 unfolding lda_to_lbn
 converts d x b h =
     let a = numbered d _ (lda_block d x) b h in
     record { known = a.known; there = rw a.is at (both_left _ _ a.good_one); names = rw a.is at (both_right _ _ a.good_one) }
 
-pub converts_of : (d x b : ℕ) → Converts d x b → lda_to_lbn d x ≡ Number b
+pub converts_of : (d x b : ℕ) → Converts d x b → lda_to_lbn d x ≡ Ok b
 unfolding lda_to_lbn
 converts_of d x b c = rw (lda_block_is d x b c.names, c.known, both_of c.there c.names)
 
 -- LBN to LDA to LBN is exact; LDA to LBN to LDA gives the cleaned address
-pub lbn_lda_lbn : (d b x : ℕ) → lbn_to_lda d b ≡ Number x → lda_to_lbn d x ≡ Number b
+pub lbn_lda_lbn : (d b x : ℕ) → lbn_to_lda d b ≡ Ok x → lda_to_lbn d x ≡ Ok b
 unfolding lbn_to_lda
 lbn_lda_lbn d b x h =
     let a = numbered d _ (lda d b) x h in
     converts_of d x b
     (record { known = a.known; there = a.good_one; names = ap (λ (y : ℕ). is_lda d y b) (sym a.is) ∙ lda_self d b })
 
-pub lda_lbn_lda : (d x b : ℕ) → lda_to_lbn d x ≡ Number b → lbn_to_lda d b ≡ Number (cleaned x)
+pub lda_lbn_lda : (d x b : ℕ) → lda_to_lbn d x ≡ Ok b → lbn_to_lda d b ≡ Ok (cleaned x)
 unfolding lbn_to_lda
 lda_lbn_lda d x b h = let c = converts d x b h in rw (c.known, c.there, lda_cleaned d x b c.names)

@@ -1,12 +1,11 @@
 -- Every number that a conversion answers fits 32 bits.
-use Rattle.std.specs.Prelude.{◌≡◌, refl, Bool, true, false, ℕ, ◌<◌, ◌≤◌, ltb, eqb}
+use Rattle.std.specs.Prelude.{◌≡◌, refl, Bool, true, false, ℕ, ◌<◌, ◌≤◌, ltb, eqb, Result, Ok, Err}
 use Rattle.std.proofs.Common.{arith, ltb-true}
 use Rattle.base.specs.Tests.{pick, both}
 use Rattle.base.specs.Laws.{both_left}
 use Rattle.base.specs.Refusals.{culprit}
+use Rattle.base.specs.declared.Refusal.{Refusal}
 use Rattle.base.specs.declared.Refusal.TheVariants.{BadImage, NoAddress}
-use Rattle.drive.specs.declared.Converted.{Converted}
-use Rattle.drive.specs.declared.Converted.TheVariants.{Number, Refused}
 use Rattle.drive.specs.Code.{place_number, encode}
 use Rattle.drive.specs.Rows.{pda_code, lda_code, id_code}
 use Rattle.drive.specs.Address.{blocks, pda, pda_block, lda, lda_block, is_lda, file_id, file_id_block, file_ids}
@@ -14,9 +13,9 @@ use Rattle.drive.specs.Answers.{converted, lbn_to_pda, pda_to_lbn, lbn_to_lda, l
 use Rattle.drive.specs.Laws.{each_row, on_row, blocks_few}
 
 -- the number of an answer fits, and so does a block that a refusal names
-abbrev pub Fits : Converted → Type 0
-Fits (Number x) = x < 4294967296
-Fits (Refused y) = culprit y < 4294967296
+abbrev pub Fits : Result ℕ Refusal → Type 0
+Fits (Ok x) = x < 4294967296
+Fits (Err y) = culprit y < 4294967296
 
 module _ (d b : ℕ) (h : b < 69552) where
   pub pda_small : pda d b < 4294967296
@@ -44,7 +43,7 @@ ids_few d = rw (on_row (λ g. g.ids) d) (each_row (λ g. g.ids ≤ 69552) d (ome
 converted_fits : (d : ℕ) (good : Bool) (x : ℕ) → (good ≡ true → x < 4294967296) → Fits (converted d good x)
 converted_fits d good x h = go (ltb 3 d) good refl
   where
-    go : (t u : Bool) → good ≡ u → Fits (pick t (Refused BadImage) (pick u (Number x) (Refused NoAddress)))
+    go : (t u : Bool) → good ≡ u → Fits (pick t (Err BadImage) (pick u (Ok x) (Err NoAddress)))
     go true u q = omega arith
     go false true q = h q
     go false false q = omega arith

@@ -1,25 +1,19 @@
-// Addresses of blocks on the four drives. An address of two words is one number, low word + 65536 * high word.
+// Addresses of blocks on the four drives. An address of two words is one number, low word + 65536 * high word. A drive is a number and no enum:
+// what is promised here, as by `address` and `lbn_to_pda`, is promised of each number, and one above 3 is refused at the calls alone.
 #![tactic(auto)]
 
-ghost use Rattle.std.specs.Prelude.{◌≡◌, ◌-◌, ◌*◌, ◌/◌, ◌%◌, ◌<◌, ◌≤◌, ltb, eqb};
+ghost use Rattle.std.specs.Prelude.{◌≡◌, MatchResult, ◌*◌, ◌/◌, ◌%◌, ◌<◌, ◌≤◌, eqb};
 ghost use Rattle.drive.specs.Code.{place_number};
 ghost use Rattle.drive.specs.Rows.{pda_code, micropolis};
 ghost use Rattle.drive.specs.Address.{blocks, pda, pda_block, or_nil, lda, lda_block, is_lda, address, file_id, file_id_block, file_ids};
 ghost use Rattle.drive.specs.Ranges.{block_of};
-ghost use Rattle.drive.specs.Answers.{converted, lbn_to_pda, pda_to_lbn, lbn_to_lda, lda_to_lbn, lbn_to_file_id, file_id_to_lbn};
-ghost use Rattle.base.specs.Tests.{both};
+ghost use Rattle.drive.specs.Answers.{lbn_to_pda, pda_to_lbn, lbn_to_lda, lda_to_lbn, lbn_to_file_id, file_id_to_lbn};
+ghost use Rattle.base.specs.declared.Refusal.TheVariants.{BadImage};
 
 use base::Refusal;
 use place::{boot, place};
 
 mod place; // place.rt: the place that a physical address names
-
-// What a conversion answers.
-#[derive(Clone, Copy)]
-pub enum Converted {
-    Number(usize),
-    Refused(Refusal),
-}
 
 // How many blocks a drive has. The Micropolis is asked for first, as in `place`, so that the compiler asks once for both.
 pub fn blocks(drive: usize) -> usize
@@ -57,10 +51,11 @@ fn micropolis(x: usize) -> usize
     c * 65536 + (t - 5 * c) * 256 + (x - 24 * t)
 }
 
-// The physical address of block b. Each drive's numbers stand here as constants, so that no division is by a variable.
+// The physical address of block b, which fits a pair of words if a drive has the block. Each drive's numbers stand here as constants, so
+// that no division is by a variable.
 pub fn pda(drive: usize, b: usize) -> usize
     requires { b < 4294967296 }
-    ensures { result ≡ pda drive b }
+    ensures { (result ≡ pda drive b) × ((b < 69552) → (result < 4294967296)) }
 {
     match drive {
         0 => (b + 30) / 30 / 4 * 256 + (b + 30) / 30 % 4 * 32 + (b + 30) % 30,
@@ -78,23 +73,16 @@ pub fn or_nil(drive: usize, b: usize) -> usize
     if b == 0 { 0 } else { pda(drive, b) }
 }
 
-// a - b, or 0.
-pub fn less(a: usize, b: usize) -> usize
-    ensures { result ≡ a - b }
-{
-    if b < a { a - b } else { 0 }
-}
-
 // The only block that can have the physical address x.
 pub fn pda_block(drive: usize, x: usize) -> usize
     requires { x < 4294967296 }
     ensures { (result ≡ pda_block drive x) × (result < 4294967296) }
 {
     match drive {
-        0 => less((x / 256 * 4 + x % 256 / 32) * 30 + x % 256 % 32, 30),
-        1 => less((x / 256 * 8 + x % 256 / 32) * 30 + x % 256 % 32, 30),
-        2 => less((x / 65536 * 5 + x % 65536 / 256) * 24 + x % 65536 % 256, 48),
-        _ => less(x / 65536 * 6 + x % 65536 / 4, 30),
+        0 => ((x / 256 * 4 + x % 256 / 32) * 30 + x % 256 % 32).saturating_sub(30),
+        1 => ((x / 256 * 8 + x % 256 / 32) * 30 + x % 256 % 32).saturating_sub(30),
+        2 => ((x / 65536 * 5 + x % 65536 / 256) * 24 + x % 65536 % 256).saturating_sub(48),
+        _ => (x / 65536 * 6 + x % 65536 / 4).saturating_sub(30),
     }
 }
 
@@ -103,7 +91,7 @@ pub fn block_of(drive: usize, x: usize) -> usize
     requires { x < 4294967296 }
     ensures { (result ≡ block_of drive x) × (result < 4294967296) }
 {
-    less(place(drive, x), boot(drive))
+    place(drive, x).saturating_sub(boot(drive))
 }
 
 // Whether x is the physical address of block b: it is asked which place x names, and b is not numbered.
@@ -114,10 +102,10 @@ pub fn is_pda(drive: usize, x: usize, b: usize) -> bool
     place(drive, x) == b + boot(drive)
 }
 
-// The logical address of block b.
+// The logical address of block b, which fits a pair of words if a drive has the block.
 pub fn lda(drive: usize, b: usize) -> usize
     requires { b < 4294967296 }
-    ensures { result ≡ lda drive b }
+    ensures { (result ≡ lda drive b) × ((b < 69552) → (result < 4294967296)) }
 {
     if drive < 3 {
         (b + 12582912) * 256
@@ -131,9 +119,9 @@ pub fn lda_block(drive: usize, x: usize) -> usize
     ensures { (result ≡ lda_block drive x) × (256 * result ≤ x) }
 {
     if drive < 3 {
-        less(x / 256, 12582912)
+        (x / 256).saturating_sub(12582912)
     } else {
-        less(x / 256, 14680064)
+        (x / 256).saturating_sub(14680064)
     }
 }
 
@@ -164,91 +152,76 @@ pub fn address(drive: usize, old: usize, b: usize) -> usize
     }
 }
 
-fn wide(x: u32) -> usize
-    ensures { (result ≡ x) × (result < 4294967296) }
-{
-    x as usize
-}
-
-// x where it is good and the drive is known.
-fn answer(drive: usize, good: bool, x: usize) -> Converted
-    ensures { result ≡ converted drive good x }
+// The drive of a number, if there is one. Behind it each conversion has its own few lines: one function of them all would take the count and the
+// address as closures, and its contract would be theirs.
+fn known(drive: u32) -> Result<usize, Refusal>
+    ensures { MatchResult result (λ d. (d ≡ drive) × (d ≤ 3)) (λ why. (why ≡ BadImage) × (3 < drive)) }
 {
     if 3 < drive {
-        return Converted::Refused(Refusal::BadImage);
+        return Err(Refusal::BadImage);
     }
-    if good {
-        Converted::Number(x)
-    } else {
-        Converted::Refused(Refusal::NoAddress)
-    }
-}
-
-// Whether block b, the only one that can have an address, is one of the drive's and has it.
-fn meets(b: usize, count: usize, has: bool) -> bool
-    ensures { result ≡ both (ltb b count) has }
-{
-    if b < count { has } else { false }
+    Ok(drive as usize)
 }
 
 // LBN to physical address, which is not worked out for a number that no block has.
-pub fn lbn_to_pda(drive: u32, lbn: u32) -> Converted
+#[tactic(auto, unfolding(crate::specs::Answers::lbn_to_pda, base::specs::Tests::both))]
+pub fn lbn_to_pda(drive: u32, lbn: u32) -> Result<usize, Refusal>
     ensures { result ≡ lbn_to_pda drive lbn }
 {
-    let d = wide(drive);
-    let b = wide(lbn);
+    let d = known(drive)?;
+    let b = lbn as usize;
     if b < blocks(d) {
-        answer(d, true, pda(d, b))
+        Ok(pda(d, b))
     } else {
-        answer(d, false, 0)
+        Err(Refusal::NoAddress)
     }
 }
 
-// Physical address to LBN, on a drive that is known.
-fn decoded(d: usize, x: usize) -> Converted
-    requires { (d ≤ 3) × (x < 4294967296) }
-    ensures { result ≡ pda_to_lbn d x }
-{
-    let p = place(d, x);
-    let o = boot(d);
-    if p < o {
-        return Converted::Refused(Refusal::NoAddress);
-    }
-    if p - o < blocks(d) {
-        Converted::Number(p - o)
-    } else {
-        Converted::Refused(Refusal::NoAddress)
-    }
-}
-
-// Physical address to LBN.
-pub fn pda_to_lbn(drive: u32, address: u32) -> Converted
+// Physical address to LBN: the place that the address names, counted from that of block 0.
+#[tactic(auto, unfolding(crate::specs::Answers::pda_to_lbn, base::specs::Tests::both))]
+pub fn pda_to_lbn(drive: u32, address: u32) -> Result<usize, Refusal>
     ensures { result ≡ pda_to_lbn drive address }
 {
-    let d = wide(drive);
-    if 3 < d {
-        return Converted::Refused(Refusal::BadImage);
+    let d = known(drive)?;
+    let p = place(d, address as usize);
+    let o = boot(d);
+    if p < o {
+        return Err(Refusal::NoAddress);
     }
-    decoded(d, wide(address))
+    if p - o < blocks(d) {
+        Ok(p - o)
+    } else {
+        Err(Refusal::NoAddress)
+    }
 }
 
 // LBN to logical address.
-pub fn lbn_to_lda(drive: u32, lbn: u32) -> Converted
+#[tactic(auto, unfolding(crate::specs::Answers::lbn_to_lda, base::specs::Tests::both))]
+pub fn lbn_to_lda(drive: u32, lbn: u32) -> Result<usize, Refusal>
     ensures { result ≡ lbn_to_lda drive lbn }
 {
-    let d = wide(drive);
-    let b = wide(lbn);
-    answer(d, b < blocks(d), lda(d, b))
+    let d = known(drive)?;
+    let b = lbn as usize;
+    if b < blocks(d) {
+        Ok(lda(d, b))
+    } else {
+        Err(Refusal::NoAddress)
+    }
 }
 
 // Logical address to LBN.
-pub fn lda_to_lbn(drive: u32, address: u32) -> Converted
+#[tactic(auto, unfolding(crate::specs::Answers::lda_to_lbn, base::specs::Tests::both))]
+pub fn lda_to_lbn(drive: u32, address: u32) -> Result<usize, Refusal>
     ensures { result ≡ lda_to_lbn drive address }
 {
-    let d = wide(drive);
-    let x = wide(address);
+    let d = known(drive)?;
+    let x = address as usize;
     let b = lda_block(d, x);
-    answer(d, meets(b, blocks(d), is_lda(d, x, b)), b)
+    if b < blocks(d) && is_lda(d, x, b) {
+        Ok(b)
+    } else {
+        Err(Refusal::NoAddress)
+    }
 }
 
 // The FileID of block b.
@@ -263,24 +236,38 @@ fn file_id(drive: usize, b: usize) -> usize
 fn file_id_block(drive: usize, x: usize) -> usize
     ensures { (result ≡ file_id_block drive x) × (result ≤ x) }
 {
-    if drive < 3 { x } else { less(x, 57344) }
+    if drive < 3 {
+        x
+    } else {
+        x.saturating_sub(57344)
+    }
 }
 
 // LBN to FileID.
-pub fn lbn_to_fileid(drive: u32, lbn: u32) -> Converted
+#[tactic(auto, unfolding(crate::specs::Answers::lbn_to_file_id, base::specs::Tests::both))]
+pub fn lbn_to_fileid(drive: u32, lbn: u32) -> Result<usize, Refusal>
     ensures { result ≡ lbn_to_file_id drive lbn }
 {
-    let d = wide(drive);
-    let b = wide(lbn);
-    answer(d, b < file_ids(d), file_id(d, b))
+    let d = known(drive)?;
+    let b = lbn as usize;
+    if b < file_ids(d) {
+        Ok(file_id(d, b))
+    } else {
+        Err(Refusal::NoAddress)
+    }
 }
 
 // FileID to LBN.
-pub fn fileid_to_lbn(drive: u32, id: u32) -> Converted
+#[tactic(auto, unfolding(crate::specs::Answers::file_id_to_lbn, base::specs::Tests::both))]
+pub fn fileid_to_lbn(drive: u32, id: u32) -> Result<usize, Refusal>
     ensures { result ≡ file_id_to_lbn drive id }
 {
-    let d = wide(drive);
-    let x = wide(id);
+    let d = known(drive)?;
+    let x = id as usize;
     let b = file_id_block(d, x);
-    answer(d, meets(b, file_ids(d), file_id(d, b) == x), b)
+    if b < file_ids(d) && file_id(d, b) == x {
+        Ok(b)
+    } else {
+        Err(Refusal::NoAddress)
+    }
 }

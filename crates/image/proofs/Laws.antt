@@ -10,11 +10,15 @@ use lib.Dec.{ltb, eqb, leb}
 use lib.ListN.{get_or, length, take, drop, set, length-append, length-take, length-drop, length-set, get_or-append, get_or-eq_default, replicate, get_or-replicate, drop_of_length-le}
 use lib.Seq.{get_or-set_same, get_or-set_other, length-take-le, get_or-take, get_or-drop, get_or-append-add, take-nil, take_all, drop-drop}
 use borrow.Author.Tests.{ltb-true, ltb-false, lt-ltb, le-ltb, eqb-true, eqb-false, leb-true, le-leb, lt-leb}
+use Rattle.std.specs.Prelude.{Option, None}
+use Rattle.std.proofs.lemmas.List.{take_more}
+use Rattle.std.proofs.lemmas.Grind.{flat_map-append}
 use Rattle.base.specs.Tests.{pick, both}
-use Rattle.image.specs.View.{Rec, Store, put, blank}
+use Rattle.image.specs.View.{Store, put, blank}
 use Rattle.image.specs.Image.{view, rec_of, rec_at, Bytes}
 use Rattle.image.specs.Stores.{bytes_of, lay, over, stored, In, bytes_rec}
-use Rattle.image.specs.Saves.{when, words, with_data, with_text, Applied, Made}
+use Rattle.image.specs.Saves.{stores_of, all_stores, words, with_data, with_text, Applied, Made}
+use Rattle.image.specs.declared.Save.{Save}
 
 -- ---- copies
 
@@ -179,22 +183,19 @@ stored_at l r b k t h e =
 
 -- ---- stores under a limit
 
-pub step_made : (room b : ℕ) (r : Rec) (l l' : List ℕ) (on : Bool) → on ≡ true → 0 < room → l' ≡ over l b (bytes_of r) → Applied room (when on b r) l l' (room - 1)
+pub step_made : (room : ℕ) (s : Store) (l l' : List ℕ) → 0 < room → l' ≡ over l s.at (bytes_of s.rec) → Applied room (s ∷ []) l l' (room - 1)
 unfolding stored
-step_made zero b r l l' on e h p = absurd (not-suc-le-zero h)
-step_made (suc n) b r l l' true e h p = record { image = p ∙ ap (λ (ss : List Store). stored ss (over l b (bytes_of r))) (sym (take-nil n)); rest = refl }
-step_made (suc n) b r l l' false e h p = absurd (false≢true e)
+step_made zero s l l' h p = absurd (not-suc-le-zero h)
+step_made (suc n) s l l' h p = record { image = p ∙ ap (λ (ss : List Store). stored ss (over l s.at (bytes_of s.rec))) (sym (take-nil n)); rest = refl }
 
-pub step_full : (room b : ℕ) (r : Rec) (l : List ℕ) (on : Bool) → on ≡ true → room ≤ 0 → Applied room (when on b r) l l room
+pub step_full : (room : ℕ) (s : Store) (l : List ℕ) → room ≤ 0 → Applied room (s ∷ []) l l room
 unfolding stored
-step_full zero b r l true e h = record { image = refl; rest = refl }
-step_full (suc n) b r l on e h = absurd (not-suc-le-zero h)
-step_full zero b r l false e h = absurd (false≢true e)
+step_full zero s l h = record { image = refl; rest = refl }
+step_full (suc n) s l h = absurd (not-suc-le-zero h)
 
-pub step_off : (room b : ℕ) (r : Rec) (l : List ℕ) (on : Bool) → on ≡ false → Applied room (when on b r) l l room
+pub not_yet : (room : ℕ) (l : List ℕ) → Applied room [] l l room
 unfolding stored
-step_off room b r l false e = record { image = rw take-nil; rest = omega arith }
-step_off room b r l true e = absurd (false≢true (sym e))
+not_yet room l = record { image = rw take-nil; rest = omega arith }
 
 take_append : (n : ℕ) (ss ts : List Store) → take n (ss ++ ts) ≡ take n ss ++ take (n - length ss) ts
 take_append n [] ts = rw (take-nil, sub-zero)
@@ -213,6 +214,11 @@ then {room} {x} {y} {ss} {ts} {l} {l₁} {l₂} p q =
       image = q.image ∙ rw (p.image, p.rest, take_append room ss ts, stored_append);
       rest = simp length-append (omega (arith, p.rest, q.rest));
     }
+
+-- a run of the first i saves of a list, and then that of the next one, which is o
+pub next : {room x y : ℕ} {l l₁ l₂ : List ℕ} (ss : List (Option Save)) (i : ℕ) {o : Option Save} → i < length ss → get_or ss i None ≡ o
+    → Applied room (all_stores (take i ss)) l l₁ x → Applied x (stores_of o) l₁ l₂ y → Applied room (all_stores (take (i + 1) ss)) l l₂ y
+next ss i h e p q = rw (take_more ss i None h, flat_map-append, append-nil, e) (then p q)
 
 -- what a call answers: its room less what is left of it
 pub made : {limit x n : ℕ} {ss : List Store} {l l' : List ℕ} → n ≡ limit - x → Applied limit ss l l' x → Made limit ss l l' n

@@ -1,18 +1,22 @@
 -- Stores of the code, and runs of them under a limit.
-use Rattle.std.specs.Prelude.{◌≡◌, Bool, true, false, List, [], ◌∷◌, ◌++◌, ℕ, ◌+◌, ◌-◌, ◌*◌, ◌≤◌, leb, ltb, length, take, get_or}
+use Rattle.std.specs.Prelude.{◌≡◌, List, [], ◌∷◌, Option, Some, None, IfSome, All, ℕ, ◌+◌, ◌-◌, ◌*◌, ◌≤◌, leb, ltb, length, take, get_or}
+use Rattle.std.specs.List.{flat_map}
 use Rattle.base.specs.Tests.{pick, both}
 use Rattle.image.specs.View.{Rec, Store}
 use Rattle.image.specs.Image.{rec_of}
 use Rattle.image.specs.Stores.{stored}
 use Rattle.image.specs.declared.Save.{Save}
 
--- one store, where `on`
-abbrev pub when : Bool → ℕ → Rec → List Store
-when true b r = record { at = b; rec = r } ∷ []
-when false b r = []
+-- the store that a save makes; those of a save that may be absent; those of a list of such saves, in order
+abbrev pub store_of : Save → Store
+store_of s = record { at = s.at; rec = rec_of s.rec }
 
-abbrev pub saves : Save → List Store
-saves s = when s.on s.at (rec_of s.rec)
+abbrev pub stores_of : Option Save → List Store
+stores_of None = []
+stores_of (Some s) = store_of s ∷ []
+
+abbrev pub all_stores : List (Option Save) → List Store
+all_stores = flat_map stores_of
 
 -- word k of a buffer of words
 unfoldable pub words : List ℕ → Rec
@@ -35,16 +39,9 @@ pub record Made (limit : ℕ) (ss : List Store) (l l' : List ℕ) (n : ℕ) : Ty
   pub image : l' ≡ stored (take limit ss) l
   pub count : n ≡ length (take limit ss)
 
--- five stores, where they are on
-abbrev pub five : Save → Save → Save → Save → Save → List Store
-five a b c d e = saves a ++ (saves b ++ (saves c ++ (saves d ++ saves e)))
-
+-- a save lies in the image; each save of a list does
 abbrev pub Fit : List ℕ → Save → Type 0
 Fit l s = 528 * s.at + 528 ≤ length l
 
-pub record Within (l : List ℕ) (a b c d e : Save) : Type 0 where
-  pub a_in : Fit l a
-  pub b_in : Fit l b
-  pub c_in : Fit l c
-  pub d_in : Fit l d
-  pub e_in : Fit l e
+abbrev pub AllFit : List ℕ → List (Option Save) → Type 0
+AllFit l = All (λ s. IfSome s (Fit l))

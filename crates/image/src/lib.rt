@@ -1,16 +1,17 @@
-// Records of 528 bytes: their words, whole records copied out, changed and stored, and runs of stores under a limit.
+// Records of 528 bytes: their words, whole records copied out, changed and stored, and runs of stores under a limit. That record b lies in the
+// image is asked of each call, as of an index into a slice: the two are the caller's own, and a type that held both would be built at each call.
 #![tactic(auto)]
 
-ghost use Rattle.std.specs.Prelude.{◌≡◌, true, ◌++◌, [], ◌+◌, ◌*◌, ◌-◌, ◌<◌, ◌≤◌, length, drop};
+ghost use Rattle.std.specs.Prelude.{◌≡◌, ◌++◌, ◌+◌, ◌*◌, ◌<◌, ◌≤◌, length, drop, IfSome};
 ghost use Rattle.std.specs.Int.{w16};
 ghost use Rattle.std.proofs.Common.{SFits};
 ghost use Rattle.image.specs.View.{pair, put, put2, blank};
 ghost use Rattle.image.specs.Signed.{signed, word_of};
 ghost use Rattle.image.specs.Image.{view, rec_of};
 ghost use Rattle.image.specs.Stores.{bytes_of, lay, over};
-ghost use Rattle.image.specs.Saves.{when, saves, words, with_data, with_text, Applied, Made, five, Within};
+ghost use Rattle.image.specs.Saves.{store_of, stores_of, all_stores, words, with_data, with_text, Applied, Made, Fit, AllFit};
 
-// A byte as a number.
+// A byte as a number, and below 256: `usize::from` promises the number alone.
 pub fn wide(x: u8) -> usize
     ensures { (result ≡ x) × (result < 256) }
 {
@@ -118,9 +119,8 @@ pub fn with_pair(r: [u8; 528], w: usize, v: usize) -> [u8; 528]
     with_word(with_word(r, w + 1, v / 65536), w, v % 65536)
 }
 
-// A record with the 512 bytes of `d` as its data.
-pub fn with_data(r: [u8; 528], d: &[u8]) -> [u8; 528]
-    requires { length d.now ≡ 512 }
+// A record with `d` as its data.
+pub fn with_data(r: [u8; 528], d: &[u8; 512]) -> [u8; 528]
     ensures { rec_of result ≡ with_data (words d.now) (rec_of r) }
 {
     let mut x = r;
@@ -128,9 +128,8 @@ pub fn with_data(r: [u8; 528], d: &[u8]) -> [u8; 528]
     x
 }
 
-// A record with the 104 bytes of `d` as its description.
-pub fn with_text(r: [u8; 528], d: &[u8]) -> [u8; 528]
-    requires { length d.now ≡ 104 }
+// A record with `d` as its description. It begins where data does; the two differ in length and in what is promised.
+pub fn with_text(r: [u8; 528], d: &[u8; 104]) -> [u8; 528]
     ensures { rec_of result ≡ with_text (words d.now) (rec_of r) }
 {
     let mut x = r;
@@ -155,98 +154,43 @@ pub fn store_at(img: &mut [u8], b: usize, r: [u8; 528])
     store(&mut img[at..], &r);
 }
 
-// A whole record to store in a block, where `on` holds.
+// A whole record to store in a block.
 #[derive(Clone, Copy)]
 pub struct Save {
-    pub on: bool,
     pub at: usize,
     pub rec: [u8; 528],
 }
 
-// One store under a limit: made where it is on and the limit leaves room. Answers the room that is left.
-pub fn step(img: &mut [u8], left: usize, s: Save) -> usize
-    requires { 528 * s.at + 528 ≤ length img.old }
-    ensures { Applied left (saves s) img.old img.new result }
+// One store under a limit, if there is one: made where the limit leaves room. Answers the room that is left.
+pub fn step(img: &mut [u8], left: usize, save: Option<Save>) -> usize
+    requires { IfSome save (Fit img.old) }
+    ensures { Applied left (stores_of save) img.old img.new result }
 {
-    let on = s.on;
-    let at = s.at;
-    let r = s.rec;
-    if on {
-        if 0 < left {
-            store_at(img, at, r);
-            return left - 1;
-        }
+    let Some(s) = save else {
+        return left;
+    };
+    if 0 < left {
+        store_at(img, s.at, s.rec);
+        return left - 1;
     }
     left
 }
 
-// The room of `limit` that is used up where `left` is left of it.
-pub fn used(limit: usize, left: usize) -> usize
-    ensures { result ≡ limit - left }
+// The stores of a list, in order, but for the places where it has none; the first `limit` of them are made. Answers how many.
+pub fn perform(img: &mut [u8], limit: usize, saves: &[Option<Save>]) -> usize
+    requires { AllFit img.old saves.now }
+    ensures { Made limit (all_stores saves.now) img.old img.new result }
 {
-    if left < limit { limit - left } else { 0 }
-}
-
-// Five stores under a limit, in order. Answers the room that is left.
-fn five(img: &mut [u8], left: usize, a: Save, b: Save, c: Save, d: Save, e: Save) -> usize
-    requires { Within img.old a b c d e }
-    ensures { Applied left (five a b c d e) img.old img.new result }
-{
-    let x = step(img, left, a);
-    let x = step(img, x, b);
-    let x = step(img, x, c);
-    let x = step(img, x, d);
-    step(img, x, e)
-}
-
-// At most five stores, in order, of which the first `limit` are made. Answers how many.
-pub fn perform(img: &mut [u8], limit: usize, a: Save, b: Save, c: Save, d: Save, e: Save) -> usize
-    requires { Within img.old a b c d e }
-    ensures { Made limit (five a b c d e) img.old img.new result }
-{
-    used(limit, five(img, limit, a, b, c, d, e))
-}
-
-// At most ten stores, in order, of which the first `limit` are made. Answers how many.
-pub fn perform_ten(
-    img: &mut [u8],
-    limit: usize,
-    a: Save,
-    b: Save,
-    c: Save,
-    d: Save,
-    e: Save,
-    f: Save,
-    g: Save,
-    h: Save,
-    i: Save,
-    j: Save,
-) -> usize
-    requires { (Within img.old a b c d e) × (Within img.old f g h i j) }
-    ensures { Made limit (five a b c d e ++ five f g h i j) img.old img.new result }
-{
-    let x = five(img, limit, a, b, c, d, e);
-    used(limit, five(img, x, f, g, h, i, j))
-}
-
-// No store.
-pub fn none() -> Save
-    ensures { (saves result ≡ []) × (result.at ≡ 0) }
-{
-    Save {
-        on: false,
-        at: 0,
-        rec: [0u8; 528],
+    let mut left = limit;
+    for s in saves {
+        left = step(img, left, *s);
     }
+    limit.saturating_sub(left)
 }
 
 // A store of the record r in block b.
 pub fn saved(b: usize, r: [u8; 528]) -> Save
-    ensures { (saves result ≡ when true b (rec_of r)) × (result.at ≡ b) }
+    ensures { (store_of result ≡ record { at = b; rec = rec_of r }) × (result.at ≡ b) }
 {
-    Save {
-        on: true,
-        at: b,
-        rec: r,
-    }
+    Save { at: b, rec: r }
 }

@@ -1,4 +1,6 @@
 -- What an index that can be read and an open file give the code that reads them, and where a shown block lies. Assumes nothing.
+use Rattle.std.specs.Prelude.{Some, Result, Ok, Err}
+use Rattle.base.specs.declared.Refusal.{Refusal}
 use mathlib.Core.Path.{◌≡◌, refl, sym, ap, ap₂, ◌∙◌, subst}
 use mathlib.Core.Logic.{◌≢◌}
 use mathlib.Core.List.{List, [], ◌∷◌}
@@ -13,19 +15,17 @@ use Rattle.drive.specs.Address.{pda, lda_block, is_lda}
 use Rattle.drive.proofs.Names.{lda_bits}
 use Rattle.image.specs.View.{View, pair}
 use Rattle.image.specs.Image.{view}
-use Rattle.volume.specs.Words.{data_offset, relative_at, slot_at, direct_at}
+use Rattle.volume.specs.Words.{relative_at, slot_at, direct_at}
 use Rattle.volume.specs.Keys.{home, reach, number, up, slot, low}
+use Rattle.volume.proofs.Same.{same_values}
 use Rattle.volume.proofs.KeyLaws.{up_data, up_home, first_data, low_pos, near_keys, row_direct, row_data}
-use Rattle.volume.specs.Files.{partition_of, inside, serial, candidate, well_formed, named, len, entry, spot, present, name, above, below, least}
+use Rattle.volume.specs.Files.{partition_of, inside, serial, candidate, well_formed, named, len, entry, spot, present, above, below, least}
 use Rattle.volume.specs.declared.Partition.{Partition}
 use Rattle.volume.proofs.Index.{wf_of, here_of, present_home, spot_home, spot_step, entry_at, entry_fib, present_low, present_high}
 use Rattle.volume.proofs.Order.{above_next, below_prev, least_present}
-use Rattle.volume.specs.Answers.{partition, shown, show_in}
+use Rattle.volume.specs.Answers.{partition, in_partition, shown, show_in}
 use Rattle.volume.specs.Reads.{Lies}
 use Rattle.volume.proofs.Readings.{inside_of, lies, candidate_in}
-use Rattle.volume.specs.declared.Part.{Part}
-use Rattle.volume.specs.declared.Part.TheVariants as part
-use Rattle.volume.specs.declared.Outcome.TheVariants.{Done}
 use Rattle.inspect.specs.Form.{names, named_member, asked_named, low_here, ends, formed_index}
 use Rattle.inspect.specs.Parts.{Opened, Readable}
 
@@ -187,32 +187,43 @@ module _ {π : Partition} {l : List ℕ} {f : ℕ} (o : Opened π l f) where
 -- ---- show
 
 -- the block that is shown lies in the image
-pub shown_at : (π : Partition) (l : List ℕ) (f r at n z : ℕ) → Lies π l → show_in π (view l) f r ≡ Done at n z → at + 512 ≤ length l
+pub shown_at : (π : Partition) (l : List ℕ) (f r : ℕ) (x : ℕ × ℕ × ℕ) → Lies π l → show_in π (view l) f r ≡ Ok (Some x) → x.0 + 512 ≤ length l
 unfolding show_in
-shown_at π l f r at n z i h = go (candidate π v f) refl (well_formed π v f) refl (ltb r reach) refl (ltb r (len v f)) refl
+shown_at π l f r x i h = go (candidate π v f) refl (well_formed π v f) refl (ltb r reach) refl (ltb r (len v f)) refl
   where
     v : View
     v = view l
 
-    go : (c : Bool) → candidate π v f ≡ c → (w : Bool) → well_formed π v f ≡ w → (t : Bool) → ltb r reach ≡ t → (u : Bool) → ltb r (len v f) ≡ u → at + 512 ≤ length l
+    go : (c : Bool) → candidate π v f ≡ c → (w : Bool) → well_formed π v f ≡ w → (t : Bool) → ltb r reach ≡ t → (u : Bool) → ltb r (len v f) ≡ u → x.0 + 512 ≤ length l
     go false c w y t m u j = let k = rw (c, show_in) at h in let z : ◌≡◌ {A = ℕ} 0 1 = cc in absurd (omega arith)
     go true c false y t m u j = let k = rw (c, y, show_in) at h in let z : ◌≡◌ {A = ℕ} 0 1 = cc in absurd (omega arith)
     go true c true y false m u j = let k = rw (c, y, m, show_in) at h in let z : ◌≡◌ {A = ℕ} 0 1 = cc in absurd (omega arith)
     go true c true y true m false j = let k = rw (c, y, m, j, show_in) at h in let z : ◌≡◌ {A = ℕ} 0 1 = cc in absurd (omega arith)
     go true c true y true m true j =
         let k = rw (c, y, m, j, show_in) at h in
-        let q : data_offset (name π v f r) ≡ at = cc in
-        let x = wf_opened f i (candidate_in π v f c).1 y in
+        let q = (same_values k).0 in
+        let o = wf_opened f i (candidate_in π v f c).1 y in
         let w = i.within in
-        omega (arith, opened_in x (292 + r) (opened_data x r (ltb-true _ _ j)))
+        omega (arith, opened_in o (292 + r) (opened_data o r (ltb-true _ _ j)))
 
-pub shown_in : (d : ℕ) (l : List ℕ) (s f r at n z : ℕ) → shown d l s f r ≡ Done at n z → at + 512 ≤ length l
+pub shown_in : (d : ℕ) (l : List ℕ) (s f r : ℕ) (x : ℕ × ℕ × ℕ) → shown d l s f r ≡ Ok (Some x) → x.0 + 512 ≤ length l
 unfolding shown
-shown_in d l s f r at n z h = go (partition d l s) refl
+shown_in d l s f r x h = go (partition d l s) refl
   where
-    go : (q : Part) → partition d l s ≡ q → at + 512 ≤ length l
-    go (part.Refused y) j = let k = rw (j, shown) at h in let z : ◌≡◌ {A = ℕ} 0 1 = cc in absurd (omega arith)
-    go (part.Good e) j = shown_at (partition_of d s e) l f r at n z (lies d l s e j) (rw (j, shown) at h)
+    go : (q : Result ℕ Refusal) → partition d l s ≡ q → x.0 + 512 ≤ length l
+    go (Err y) j = let k = rw (j, shown) at h in let z : ◌≡◌ {A = ℕ} 0 1 = cc in absurd (omega arith)
+    go (Ok e) j = shown_at (partition_of d s e) l f r x (lies d l s e j) (rw (j, shown) at h)
 
 pub length_512 : (a : ℕ) → a + 512 - a ≡ 512
 length_512 a = omega arith
+
+-- ---- an opened partition
+
+-- what `open` ensures of an opened partition π, whose image is m: the partition at s of l ends at π.e, π is that partition, and m is l
+module _ {d s : ℕ} {l m : List ℕ} {π : Partition} (o : (partition d l s ≡ Ok π.e) × (π.drive ≡ d) × (π.s ≡ s) × (m ≡ l)) where
+  pub opened_end : (partition d l s ≡ Ok π.e) × (π ≡ partition_of d s π.e) × (m ≡ l)
+  opened_end = (o.0, ap₂ (λ (x y : ℕ). partition_of x y π.e) o.1 o.2, o.3)
+
+  -- what comes in a good partition is what comes in π
+  pub in_opened : {A : Type 0} (otherwise : Refusal → A) (k : Partition → List ℕ → A) → in_partition otherwise (partition d l s) (λ e. k (partition_of d s e) l) ≡ k π m
+  in_opened otherwise k = ap (λ (x : Result ℕ Refusal). in_partition otherwise x (λ e. k (partition_of d s e) l)) o.0 ∙ sym (ap₂ k opened_end.1 o.3)

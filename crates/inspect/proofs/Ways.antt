@@ -1,19 +1,19 @@
 -- The ways through the code that tests an index: its pointer blocks, its unused entries, and well formed. Assumes nothing.
 use mathlib.Core.Path.{◌≡◌, refl, sym, ap, ◌∙◌}
-use mathlib.Core.Logic.{⊎_elim}
 use mathlib.Core.List.{List, [], ◌∷◌}
 use mathlib.Core.Bool.{Bool, true, false, ◌&&◌}
-use Prim.Native.Nat.{ℕ, ◌+◌, ◌-◌, ◌*◌, ◌/◌, ◌≤◌, ◌<◌}
-use native.Mathlib.Nat.{eq-or-lt_of_le}
-use native.Mathlib.Numerals.{add-one}
+use Prim.Native.Nat.{ℕ, zero, suc, ◌+◌, ◌-◌, ◌*◌, ◌/◌, ◌≤◌, ◌<◌}
 use native.Mathlib.Omega.{arith}
 use lib.Bits.{bit_or, or_add_and, and_le_l, and_le_r}
 use lib.Dec.{ltb, leb, eqb}
 use lib.IntN.{ℤ}
-use borrow.Author.Rules.{rules}
 use borrow.Author.Tests.{ltb-true, ltb-false, lt-ltb, le-ltb, eq-eqb, ne_eqb, eqb-true, eqb-false}
+use Rattle.std.specs.Prelude.{min, Some, cond}
+use Rattle.std.specs.List.{find, range_with_len}
 use Rattle.base.specs.Tests.{pick, both, every, all}
-use Rattle.base.specs.Laws.{all_of}
+use Rattle.base.proofs.Chains.{all_list}
+use Rattle.std.proofs.Math.Bool.{and_assoc}
+use Rattle.std.specs.List.{fold, list_all, range_with_len}
 use Rattle.image.specs.View.{View, pair}
 use Rattle.image.specs.Image.{view}
 use Rattle.image.specs.Signed.{signed}
@@ -22,6 +22,7 @@ use Rattle.volume.specs.Keys.{home, reach, up, low}
 use Rattle.volume.proofs.KeyLaws.{first_up, first_pointer, low_pos, up_far, closed_ptr}
 use Rattle.volume.specs.Files.{well_formed, len, spot}
 use Rattle.volume.specs.declared.Partition.{Partition}
+use Rattle.volume.specs.Answers.{lowest}
 use Rattle.volume.proofs.Steps.{every_no, and_true, both_no}
 use Rattle.volume.specs.Closed.{nearest}
 use Rattle.volume.proofs.Closed.{asked_near}
@@ -72,12 +73,8 @@ pub double_held : (π : Partition) (v : View) (f i : ℕ) → i < 2 → f ≤ π
 double_held π v f i l e = rw (← held_near π v f (290 - i) (omega arith) (omega arith)) e
 
 -- blocks below the next pointer block's are those of this one
-pub least_reach : (k a n j r : ℕ) → n ≡ pick (ltb (k - a) 128) (k - a) 128 → n ≤ j → r < k → r < a + 128 → r < a + j
-least_reach k a n j r q l h u = go (ltb (k - a) 128) refl
-  where
-    go : (t : Bool) → ltb (k - a) 128 ≡ t → r < a + j
-    go true z = let m : n ≡ k - a = q ∙ rw z in omega arith
-    go false z = let m : n ≡ 128 = q ∙ rw z in omega arith
+pub least_reach : (k a n j r : ℕ) → n ≡ min (k - a) 128 → n ≤ j → r < k → r < a + 128 → r < a + j
+least_reach k a n j r q l h u = omega arith
 
 -- no blocks need no entry
 pub index_none : (π : Partition) (v : View) (f n : ℕ) → n ≡ 0 → true ≡ index_good π v f n
@@ -100,40 +97,23 @@ module _ (π : Partition) (v : View) (f n : ℕ) where
 
 -- ---- the walk that gathers the bits of the entries from k on
 
-eqb_or : (a b : ℕ) → eqb (bit_or a b) 0 ≡ (eqb b 0 && eqb a 0)
-eqb_or a b = go (eqb b 0) refl (eqb a 0) refl
+eqb_or : (a b : ℕ) → eqb (bit_or a b) 0 ≡ (eqb a 0 && eqb b 0)
+eqb_or a b = go (eqb a 0) refl (eqb b 0) refl
   where
-    go : (t : Bool) → eqb b 0 ≡ t → (u : Bool) → eqb a 0 ≡ u → eqb (bit_or a b) 0 ≡ (t && u)
-    go true p true q = eq-eqb (bit_or a b) 0 (omega (arith, or_add_and a b, eqb-true b 0 p, eqb-true a 0 q))
-    go true p false q = ne_eqb (bit_or a b) 0 (λ z. eqb-false a 0 q (omega (arith, or_add_and a b, and_le_r a b, z)))
-    go false p u q = ne_eqb (bit_or a b) 0 (λ z. eqb-false b 0 p (omega (arith, or_add_and a b, and_le_l a b, z)))
+    go : (t : Bool) → eqb a 0 ≡ t → (u : Bool) → eqb b 0 ≡ u → eqb (bit_or a b) 0 ≡ (t && u)
+    go true p true q = eq-eqb (bit_or a b) 0 (omega (arith, or_add_and a b, eqb-true a 0 p, eqb-true b 0 q))
+    go true p false q = ne_eqb (bit_or a b) 0 (λ z. eqb-false b 0 q (omega (arith, or_add_and a b, and_le_l a b, z)))
+    go false p u q = ne_eqb (bit_or a b) 0 (λ z. eqb-false a 0 p (omega (arith, or_add_and a b, and_le_r a b, z)))
 
--- at i, which is past n only where k is
-pub record Nils (v : View) (f w k n i any : ℕ) : Type 0 where
-  pub is : eqb any 0 ≡ all i (nil_from v f w k)
-  pub from : k ≤ i
-  pub past : n < i → i ≤ k
+or_all : (x : ℕ → ℕ) (b a n : ℕ) → eqb (fold (λ c i. bit_or c (x i)) b (range_with_len a n)) 0 ≡ (eqb b 0 && list_all (λ i. eqb (x i) 0) (range_with_len a n))
+or_all x b a zero = sym (and_true (eqb b 0))
+or_all x b a (suc n) =
+    let rest = list_all (λ i. eqb (x i) 0) (range_with_len (a + 1) n) in
+    or_all x (bit_or b (x a)) (a + 1) n ∙ ap (λ (t : Bool). t && rest) (eqb_or b (x a)) ∙ and_assoc (eqb b 0) (eqb (x a) 0) rest
 
-nil_below : (v : View) (f w k m : ℕ) → m ≤ k → all m (nil_from v f w k) ≡ true
-nil_below v f w k m h = all_of m (nil_from v f w k) (λ j l. rw (lt-ltb j k (omega arith)))
-
-module _ {v : View} {f w k n : ℕ} where
-  pub nil_starts : Nils v f w k n k 0
-  nil_starts = record { is = sym (nil_below v f w k k (omega arith)); from = omega arith; past = λ h. omega arith }
-
-  module _ {i any : ℕ} (g : Nils v f w k n i any) where
-    pub nil_next : {x y : ℕ} → i < n → y ≡ x → x ≡ pair v f (w + 2 * i) → Nils v f w k n (i + 1) (bit_or any y)
-    unfolding all
-    nil_next {x} {y} l p q = record {
-      is = rw (add-one i, all, le-ltb i k g.from, ← q, ← p, ← g.is) (eqb_or any y);
-      from = omega (arith, g.from);
-      past = λ h. absurd (omega arith);
-    }
-
-    pub nil_end : n ≤ i → eqb any 0 ≡ all n (nil_from v f w k)
-    nil_end h = ⊎_elim (λ j. rw j g.is) (λ j. g.is ∙ nil_below v f w k i (g.past j) ∙ sym (nil_below v f w k n (let z = g.past j in omega arith))) (eq-or-lt_of_le h)
-
-pub ruleset nils = (nil_starts, nil_next, nil_end, rules)
+-- the entries from k on, or'ed
+pub nils_are : (v : View) (f w k n : ℕ) {r : ℕ} → r ≡ fold (λ b i. bit_or b (pair v f (w + 2 * i))) 0 (range_with_len k (n - k)) → eqb r 0 ≡ all n (nil_from v f w k)
+nils_are v f w k n h = ap (λ (z : ℕ). eqb z 0) h ∙ or_all _ 0 k (n - k) ∙ all_list (λ i. eqb (pair v f (w + 2 * i)) 0) (nil_from v f w k) k n (λ i l. rw (lt-ltb i k l)) (λ i l m. rw (le-ltb i k l))
 
 -- ---- the ways through `well_formed`, which reads L, that is z, and from it n
 
@@ -177,3 +157,15 @@ pub wf_readable : {π : Partition} {l : List ℕ} (f : ℕ) (z : ℤ) (n : ℕ) 
 wf_readable {π} {l} f z n i h hz small good hn g =
     let q = len_is π (view l) f z hz small good n hn.0 in
     (record { lies = i; here = h; short = rw (← q) hn.1; good = rw (← q) g }, q)
+
+-- ---- a search
+
+pub find_lowest : (p : ℕ → Bool) (a n : ℕ) → find p (range_with_len a n) ≡ lowest p a n
+unfolding lowest
+find_lowest p a zero = refl
+find_lowest p a (suc n) = go (p a) (find_lowest p (a + 1) n)
+  where
+    go : (t : Bool) → find p (range_with_len (a + 1) n) ≡ lowest p (a + 1) n
+        → cond t (Some a) (find p (range_with_len (a + 1) n)) ≡ elim t [ true ↦ Some a | false ↦ lowest p (a + 1) n ]
+    go true h = refl
+    go false h = h

@@ -4,12 +4,10 @@ ghost use Rattle.base.specs.Tests.{all};
 ghost use Rattle.image.specs.View.{pair};
 ghost use Rattle.image.specs.Image.{view};
 ghost use Rattle.volume.specs.Files.{len, well_formed};
-ghost use Rattle.volume.specs.Reads.{Lies};
 ghost use Rattle.inspect.specs.Form.{nil_from, nils_good, numbers_good};
 ghost use Rattle.inspect.specs.Parts.{Readable};
 
-use crate::{index, keys, numbers};
-use volume::Partition;
+use crate::{Volume, keys, numbers};
 use volume::words::{
     DIRECT, DOUBLE, IN_USE, INDIRECT, LAST_ADDRESS, LAST_BLOCK, LOW_ADDRESS, LOW_NUMBER,
     SECOND_DOUBLE,
@@ -23,17 +21,13 @@ fn narrow(x: usize) -> u32
     x as u32
 }
 
-// Whether of the n entries from word w on those from k on are nil: whether no bit is set in any. With no way out of the loop, and
+// Whether of the n entries from word w on those from k on are nil: whether no bit is set in any. With no way out of the fold, and
 // with 32 bits kept, the compiler reads several at a time.
 fn nil_from(img: &[u8], f: usize, w: usize, k: usize, n: usize) -> bool
     requires { (528 * f + 528 ≤ length img.now) × (w + 2 * n < 263) }
     ensures { result ≡ all n (nil_from (view img.now) f w k) }
 {
-    let mut any: u32 = 0;
-    for i in k..n {
-        any = any | narrow(image::pair(img, f, w + 2 * i));
-    }
-    any == 0
+    (k..n).fold(0u32, |any, i| any | narrow(image::pair(img, f, w + 2 * i))) == 0
 }
 
 // Whether a double entry of the FIB, that at word w, is asked for by n blocks, which is so beyond `first`, or nil.
@@ -55,7 +49,7 @@ fn nils_good(img: &[u8], f: usize, n: usize) -> bool
     if !nil_from(img, f, DIRECT, n, 64) {
         return false;
     }
-    if !nil_from(img, f, INDIRECT, drive::less(289, keys::low(n)), 32) {
+    if !nil_from(img, f, INDIRECT, 289usize.saturating_sub(keys::low(n)), 32) {
         return false;
     }
     if !double_good(img, f, DOUBLE, 4160, n) {
@@ -64,41 +58,43 @@ fn nils_good(img: &[u8], f: usize, n: usize) -> bool
     double_good(img, f, SECOND_DOUBLE, 20544, n)
 }
 
-// Whether the numbers and addresses of f, whose index is good, are those of its n blocks.
-fn numbers_good(img: &[u8], p: Partition, f: usize, n: usize) -> bool
-    requires { (Readable p img.now f) × (n ≡ len (view img.now) f) }
-    ensures { result ≡ numbers_good p (view img.now) f n }
-{
-    if image::word(img, f, IN_USE) != keys::size_of(n) {
-        return false;
+impl Volume<'_> {
+    // Whether the numbers and addresses of f, whose index is good, are those of its n blocks.
+    fn numbers_good(&self, f: usize, n: usize) -> bool
+        requires { (Readable self.now.p self.now.img.now f) × (n ≡ len (view self.now.img.now) f) }
+        ensures { result ≡ numbers_good self.now.p (view self.now.img.now) f n }
+    {
+        if image::word(self.img, f, IN_USE) != keys::size_of(n) {
+            return false;
+        }
+        let last = self.at_key(f, keys::HOME + n);
+        if !drive::is_lda(self.p.drive, image::pair(self.img, f, LAST_ADDRESS), last) {
+            return false;
+        }
+        let low = keys::low(n);
+        if !numbers::is_number(self.img, f, LOW_NUMBER, numbers::number_of(low)) {
+            return false;
+        }
+        let top = self.at_key(f, low);
+        drive::is_lda(self.p.drive, image::pair(self.img, f, LOW_ADDRESS), top)
     }
-    let last = index::at_key(img, p, f, keys::HOME + n);
-    if !drive::is_lda(p.drive, image::pair(img, f, LAST_ADDRESS), last) {
-        return false;
-    }
-    let low = keys::low(n);
-    if !numbers::is_number(img, f, LOW_NUMBER, numbers::number_of(low)) {
-        return false;
-    }
-    let top = index::at_key(img, p, f, low);
-    drive::is_lda(p.drive, image::pair(img, f, LOW_ADDRESS), top)
-}
 
-// Whether f is well formed.
-pub fn well_formed(img: &[u8], p: Partition, f: usize) -> bool
-    requires { (Lies p img.now) × (f ≤ p.e) }
-    ensures { result ≡ well_formed p (view img.now) f }
-{
-    let l = image::signed_word(img, f, LAST_BLOCK);
-    if !numbers::last_good(l) {
-        return false;
+    // Whether f is well formed.
+    pub fn well_formed(&self, f: usize) -> bool
+        requires { f ≤ self.now.p.e }
+        ensures { result ≡ well_formed self.now.p (view self.now.img.now) f }
+    {
+        let l = image::signed_word(self.img, f, LAST_BLOCK);
+        if !numbers::last_good(l) {
+            return false;
+        }
+        let n = numbers::blocks_to(l);
+        if !self.index_good(f, n) {
+            return false;
+        }
+        if !nils_good(self.img, f, n) {
+            return false;
+        }
+        self.numbers_good(f, n)
     }
-    let n = numbers::blocks_to(l);
-    if !index::index_good(img, p, f, n) {
-        return false;
-    }
-    if !nils_good(img, f, n) {
-        return false;
-    }
-    numbers_good(img, p, f, n)
 }

@@ -1,21 +1,19 @@
 // A file's index: whether its entries name the right blocks, and the block of a key.
-ghost use Rattle.std.specs.Prelude.{◌≡◌, true, ◌≢◌, ◌+◌, ◌*◌, ◌/◌, ◌%◌, ◌≤◌, ◌<◌, ltb, length};
+ghost use Rattle.std.specs.Prelude.{◌≡◌, true, ◌≢◌, ◌+◌, ◌*◌, ◌/◌, ◌%◌, ◌≤◌, ◌<◌, length};
 ghost use Rattle.std.specs.Int.{w16};
 ghost use Rattle.std.proofs.Common.{SFits};
-ghost use Rattle.base.specs.Tests.{pick, all};
+ghost use Rattle.base.specs.Tests.{all};
 ghost use Rattle.drive.specs.Address.{pda, lda_block};
 ghost use Rattle.image.specs.View.{pair};
 ghost use Rattle.image.specs.Image.{view};
 ghost use Rattle.image.specs.Signed.{word_of};
 ghost use Rattle.volume.specs.Words.{slot_at};
 ghost use Rattle.volume.specs.Keys.{number, reach, up, slot};
-ghost use Rattle.volume.specs.Files.{len, spot, present, name, named};
-ghost use Rattle.volume.specs.Reads.{Lies};
+ghost use Rattle.volume.specs.Files.{len, spot, present, named};
 ghost use Rattle.inspect.specs.Form.{names, data_test, double_test, doubles_good, entries_good, index_good};
-ghost use Rattle.inspect.specs.Parts.{Opened, Readable};
+ghost use Rattle.inspect.specs.Parts.{Readable};
 
-use crate::{keys, numbers};
-use volume::Partition;
+use crate::{Volume, keys, numbers};
 use volume::words::{DIRECT, LAST_BLOCK, SERIAL, SLOTS};
 
 // L + 1, of an f whose L is within reach.
@@ -26,153 +24,12 @@ pub fn len(img: &[u8], f: usize) -> usize
     numbers::blocks_to(image::signed_word(img, f, LAST_BLOCK))
 }
 
-// Whether the LDA x is that of a block of the partition with the serial `own` and the relative number n.
-fn names(img: &[u8], p: Partition, own: usize, x: usize, n: i32) -> bool
-    requires { (Lies p img.now) × (SFits w16 n) }
-    ensures { result ≡ names p (view img.now) own x (word_of n) }
-{
-    // A number that is decoded as a block above s is that block's LDA.
-    let b = drive::lda_block(p.drive, x);
-    if b <= p.s {
-        return false;
-    }
-    if p.e < b {
-        return false;
-    }
-    if image::pair(img, b, SERIAL) != own {
-        return false;
-    }
-    numbers::has_number(img, b, n)
-}
-
 // The block that the entry of key k in block q names.
 fn entry_block(img: &[u8], drive: usize, q: usize, k: usize) -> usize
     requires { (528 * q + 528 ≤ length img.now) × (k < 37220) }
     ensures { (result ≡ lda_block drive (pair (view img.now) q (slot k))) × (result < 16777216) }
 {
     drive::lda_block(drive, image::pair(img, q, keys::slot(k)))
-}
-
-// The block that names key k, which no pointer block over data does: the FIB, or -2 or -3.
-fn holder(img: &[u8], p: Partition, f: usize, k: usize) -> usize
-    requires { (Lies p img.now) × (f ≤ p.e) × (1 ≤ k) × (k < 356) }
-    ensures { (result ≡ spot p (view img.now) f (up k)) × (result < 16777216) }
-{
-    if 256 < k {
-        return f;
-    }
-    entry_block(img, p.drive, f, keys::up(k))
-}
-
-// The block that the index names as pointer block k.
-fn ptr(img: &[u8], p: Partition, f: usize, k: usize) -> usize
-    requires { (Lies p img.now) × (f ≤ p.e) × (1 ≤ k) × (k < 291) × (spot p (view img.now) f (up k) ≤ p.e) }
-    ensures { (result ≡ spot p (view img.now) f k) × (result < 16777216) }
-{
-    entry_block(img, p.drive, holder(img, p, f, k), k)
-}
-
-// Whether the index names pointer block k of f with its number.
-fn ptr_named(img: &[u8], p: Partition, f: usize, own: usize, k: usize) -> bool
-    requires { (Lies p img.now) × (f ≤ p.e) × (own ≡ pda p.drive f) × (1 ≤ k) × (k < 291) × (spot p (view img.now) f (up k) ≤ p.e) }
-    ensures { result ≡ named p (view img.now) f k }
-{
-    let x = image::pair(img, holder(img, p, f, k), keys::slot(k));
-    names(img, p, own, x, numbers::number_of(k))
-}
-
-// Whether direct entry r names block r of f.
-fn direct_named(img: &[u8], p: Partition, f: usize, own: usize, r: usize) -> bool
-    requires { (Lies p img.now) × (f ≤ p.e) × (own ≡ pda p.drive f) × (r < 64) }
-    ensures { result ≡ data_test p (view img.now) f r }
-{
-    let x = image::pair(img, f, DIRECT + 2 * r);
-    names(img, p, own, x, numbers::number_of(keys::FIRST + r))
-}
-
-// Whether entry j of pointer block i, which is block q, names its block of the file with the address `own`.
-fn entry_named(img: &[u8], p: Partition, own: usize, q: usize, i: usize, j: usize) -> bool
-    requires { (Lies p img.now) × (q ≤ p.e) × (356 + 128 * i + j < 33060) × (j < 128) }
-    ensures { result ≡ names p (view img.now) own (pair (view img.now) q (slot_at j)) (number (356 + 128 * i + j)) }
-{
-    let x = image::pair(img, q, SLOTS + 2 * j);
-    names(img, p, own, x, numbers::number_of(356 + 128 * i + j))
-}
-
-// The smaller of two numbers.
-fn least(a: usize, b: usize) -> usize
-    ensures { (result ≡ pick (ltb a b) a b) × (result ≤ a) × (result ≤ b) }
-{
-    if a < b { a } else { b }
-}
-
-// Whether the first m direct entries name the first m blocks of f.
-fn direct_good(img: &[u8], p: Partition, f: usize, own: usize, m: usize) -> bool
-    requires { (Lies p img.now) × (f ≤ p.e) × (own ≡ pda p.drive f) × (m ≤ 64) }
-    ensures { result ≡ all m (data_test p (view img.now) f) }
-{
-    for r in 0..m {
-        if !direct_named(img, p, f, own, r) {
-            return false;
-        }
-    }
-    true
-}
-
-// Whether the first m of -2 and -3 are named with their numbers.
-fn doubles_good(img: &[u8], p: Partition, f: usize, m: usize) -> bool
-    requires { (Lies p img.now) × (f ≤ p.e) × (m ≤ 2) }
-    ensures { result ≡ all m (double_test p (view img.now) f) }
-{
-    for i in 0..m {
-        if !ptr_named(img, p, f, drive::pda(p.drive, f), 290 - i) {
-            return false;
-        }
-    }
-    true
-}
-
-// Whether every entry over data and every data block that n blocks need is named well, where -2 and -3 are.
-fn entries_good(img: &[u8], p: Partition, f: usize, n: usize) -> bool
-    requires { (Lies p img.now) × (f ≤ p.e) × (n ≤ 32767) × (doubles_good p (view img.now) f n ≡ true) }
-    ensures { result ≡ entries_good p (view img.now) f n }
-{
-    let own = drive::pda(p.drive, f);
-    if !direct_good(img, p, f, own, least(n, 64)) {
-        return false;
-    }
-    let pointers = drive::less(289, keys::low(n));
-    let mut good = true;
-    'index: for i in 0..pointers {
-        if !ptr_named(img, p, f, own, keys::POINTER - i) {
-            good = false;
-            break 'index;
-        }
-        let q = ptr(img, p, f, keys::POINTER - i);
-        let m = least(n - (64 + 128 * i), 128);
-        for j in 0..m {
-            if !entry_named(img, p, own, q, i, j) {
-                good = false;
-                break 'index;
-            }
-        }
-    }
-    good
-}
-
-// Whether every entry that n blocks need is good: without blocks no address is worked out.
-pub fn index_good(img: &[u8], p: Partition, f: usize, n: usize) -> bool
-    requires { (Lies p img.now) × (f ≤ p.e) × (n ≤ 32767) }
-    ensures { result ≡ index_good p (view img.now) f n }
-{
-    if n < 1 {
-        return true;
-    }
-    if doubles_good(img, p, f, keys::HOME - keys::nearest(n)) {
-        entries_good(img, p, f, n)
-    } else {
-        false
-    }
 }
 
 // The block that the entry of key k in block q is known to name.
@@ -191,57 +48,168 @@ fn through(k: usize) -> usize
     if 355 < k { keys::up(k) } else { k }
 }
 
-// The block that names key k of f, whose index is good, by at most two entries; of the FIB itself.
-pub fn holder_of(img: &[u8], p: Partition, f: usize, k: usize) -> usize
-    requires { (Readable p img.now f) × (present p (view img.now) f k ≡ true) }
-    ensures { (result ≡ spot p (view img.now) f (up k)) × (result ≤ p.e) }
-{
-    let u = through(k);
-    let q = holder(img, p, f, u);
-    if 355 < k { read(img, q, u) } else { q }
-}
-
-// The block of key k of f but the FIB's, whose index is good, by up to three entries.
-fn far_key(img: &[u8], p: Partition, f: usize, k: usize) -> usize
-    requires { (Readable p img.now f) × (present p (view img.now) f k ≡ true) × (k ≢ 291) }
-    ensures { (result ≡ spot p (view img.now) f k) × (result ≤ p.e) }
-{
-    read(img, holder_of(img, p, f, k), k)
-}
-
-// The block of key k of f, whose index is good: an entry that is asked for is the LDA of a block. Short ways for the keys to which at most
-// two entries lead: most are theirs.
-pub fn at_key(img: &[u8], p: Partition, f: usize, k: usize) -> usize
-    requires { (Readable p img.now f) × (present p (view img.now) f k ≡ true) }
-    ensures { (result ≡ spot p (view img.now) f k) × (result ≤ p.e) }
-{
-    if k == keys::HOME {
-        return f;
+impl Volume<'_> {
+    // Whether the LDA x is that of a block of the partition with the serial `own` and the relative number n.
+    fn names(&self, own: usize, x: usize, n: i32) -> bool
+        requires { SFits w16 n }
+        ensures { result ≡ names self.now.p (view self.now.img.now) own x (word_of n) }
+    {
+        // A number that is decoded as a block above s is that block's LDA.
+        let b = drive::lda_block(self.p.drive, x);
+        if b <= self.p.s {
+            return false;
+        }
+        if self.p.e < b {
+            return false;
+        }
+        if image::pair(self.img, b, SERIAL) != own {
+            return false;
+        }
+        numbers::has_number(self.img, b, n)
     }
-    if k <= keys::HOME {
-        return far_key(img, p, f, k);
-    }
-    if k <= 355 {
-        return read(img, f, k);
-    }
-    if 4451 < k {
-        return far_key(img, p, f, k);
-    }
-    read(img, read(img, f, keys::up(k)), k)
-}
 
-// The block of key k of f.
-pub fn spot(img: &[u8], p: Partition, f: usize, k: usize) -> usize
-    requires { (Opened p img.now f) × (present p (view img.now) f k ≡ true) }
-    ensures { (result ≡ spot p (view img.now) f k) × (result ≤ p.e) }
-{
-    at_key(img, p, f, k)
-}
+    // The block that names key k, which no pointer block over data does: the FIB, or -2 or -3.
+    fn holder(&self, f: usize, k: usize) -> usize
+        requires { (f ≤ self.now.p.e) × (1 ≤ k) × (k < 356) }
+        ensures { (result ≡ spot self.now.p (view self.now.img.now) f (up k)) × (result < 16777216) }
+    {
+        if 256 < k {
+            return f;
+        }
+        entry_block(self.img, self.p.drive, f, keys::up(k))
+    }
 
-// Block r of f.
-pub fn name(img: &[u8], p: Partition, f: usize, r: usize) -> usize
-    requires { (Opened p img.now f) × (r < len (view img.now) f) }
-    ensures { (result ≡ name p (view img.now) f r) × (result ≤ p.e) }
-{
-    spot(img, p, f, keys::FIRST + r)
+    // The block that the index names as pointer block k.
+    fn ptr(&self, f: usize, k: usize) -> usize
+        requires { (f ≤ self.now.p.e) × (1 ≤ k) × (k < 291) × (spot self.now.p (view self.now.img.now) f (up k) ≤ self.now.p.e) }
+        ensures { (result ≡ spot self.now.p (view self.now.img.now) f k) × (result < 16777216) }
+    {
+        entry_block(self.img, self.p.drive, self.holder(f, k), k)
+    }
+
+    // Whether the index names pointer block k of f with its number.
+    fn ptr_named(&self, f: usize, own: usize, k: usize) -> bool
+        requires { (f ≤ self.now.p.e) × (own ≡ pda self.now.p.drive f) × (1 ≤ k) × (k < 291) × (spot self.now.p (view self.now.img.now) f (up k) ≤ self.now.p.e) }
+        ensures { result ≡ named self.now.p (view self.now.img.now) f k }
+    {
+        let x = image::pair(self.img, self.holder(f, k), keys::slot(k));
+        self.names(own, x, numbers::number_of(k))
+    }
+
+    // Whether direct entry r names block r of f.
+    fn direct_named(&self, f: usize, own: usize, r: usize) -> bool
+        requires { (f ≤ self.now.p.e) × (own ≡ pda self.now.p.drive f) × (r < 64) }
+        ensures { result ≡ data_test self.now.p (view self.now.img.now) f r }
+    {
+        let x = image::pair(self.img, f, DIRECT + 2 * r);
+        self.names(own, x, numbers::number_of(keys::FIRST + r))
+    }
+
+    // Whether entry j of pointer block i, which is block q, names its block of the file with the address `own`.
+    fn entry_named(&self, own: usize, q: usize, i: usize, j: usize) -> bool
+        requires { (q ≤ self.now.p.e) × (356 + 128 * i + j < 33060) × (j < 128) }
+        ensures { result ≡ names self.now.p (view self.now.img.now) own (pair (view self.now.img.now) q (slot_at j)) (number (356 + 128 * i + j)) }
+    {
+        let x = image::pair(self.img, q, SLOTS + 2 * j);
+        self.names(own, x, numbers::number_of(356 + 128 * i + j))
+    }
+
+    // Whether the first m direct entries name the first m blocks of f.
+    fn direct_good(&self, f: usize, own: usize, m: usize) -> bool
+        requires { (f ≤ self.now.p.e) × (own ≡ pda self.now.p.drive f) × (m ≤ 64) }
+        ensures { result ≡ all m (data_test self.now.p (view self.now.img.now) f) }
+    {
+        (0..m).all(|r| self.direct_named(f, own, r))
+    }
+
+    // Whether the first m of -2 and -3 are named with their numbers.
+    fn doubles_good(&self, f: usize, m: usize) -> bool
+        requires { (f ≤ self.now.p.e) × (m ≤ 2) }
+        ensures { result ≡ all m (double_test self.now.p (view self.now.img.now) f) }
+    {
+        (0..m).all(|i| self.ptr_named(f, drive::pda(self.p.drive, f), 290 - i))
+    }
+
+    // Whether every entry over data and every data block that n blocks need is named well, where -2 and -3 are. A pointer block is looked up
+    // once for its entries, so that two loops are one inside the other and are left by a label, which is kept as one of the forms in docs/DECISIONS.md.
+    fn entries_good(&self, f: usize, n: usize) -> bool
+        requires { (f ≤ self.now.p.e) × (n ≤ 32767) × (doubles_good self.now.p (view self.now.img.now) f n ≡ true) }
+        ensures { result ≡ entries_good self.now.p (view self.now.img.now) f n }
+    {
+        let own = drive::pda(self.p.drive, f);
+        if !self.direct_good(f, own, n.min(64)) {
+            return false;
+        }
+        let pointers = 289usize.saturating_sub(keys::low(n));
+        let mut good = true;
+        'index: for i in 0..pointers {
+            if !self.ptr_named(f, own, keys::POINTER - i) {
+                good = false;
+                break 'index;
+            }
+            let q = self.ptr(f, keys::POINTER - i);
+            let m = (n - (64 + 128 * i)).min(128);
+            for j in 0..m {
+                if !self.entry_named(own, q, i, j) {
+                    good = false;
+                    break 'index;
+                }
+            }
+        }
+        good
+    }
+
+    // Whether every entry that n blocks need is good: without blocks no address is worked out.
+    pub fn index_good(&self, f: usize, n: usize) -> bool
+        requires { (f ≤ self.now.p.e) × (n ≤ 32767) }
+        ensures { result ≡ index_good self.now.p (view self.now.img.now) f n }
+    {
+        if n < 1 {
+            return true;
+        }
+        if self.doubles_good(f, keys::HOME - keys::nearest(n)) {
+            self.entries_good(f, n)
+        } else {
+            false
+        }
+    }
+
+    // The block that names key k of f, whose index is good, by at most two entries; of the FIB itself.
+    pub fn holder_of(&self, f: usize, k: usize) -> usize
+        requires { (Readable self.now.p self.now.img.now f) × (present self.now.p (view self.now.img.now) f k ≡ true) }
+        ensures { (result ≡ spot self.now.p (view self.now.img.now) f (up k)) × (result ≤ self.now.p.e) }
+    {
+        let u = through(k);
+        let q = self.holder(f, u);
+        if 355 < k { read(self.img, q, u) } else { q }
+    }
+
+    // The block of key k of f but the FIB's, whose index is good, by up to three entries.
+    fn far_key(&self, f: usize, k: usize) -> usize
+        requires { (Readable self.now.p self.now.img.now f) × (present self.now.p (view self.now.img.now) f k ≡ true) × (k ≢ 291) }
+        ensures { (result ≡ spot self.now.p (view self.now.img.now) f k) × (result ≤ self.now.p.e) }
+    {
+        read(self.img, self.holder_of(f, k), k)
+    }
+
+    // The block of key k of f, whose index is good: an entry that is asked for is the LDA of a block. Short ways for the keys to which at most
+    // two entries lead: most are theirs.
+    pub fn at_key(&self, f: usize, k: usize) -> usize
+        requires { (Readable self.now.p self.now.img.now f) × (present self.now.p (view self.now.img.now) f k ≡ true) }
+        ensures { (result ≡ spot self.now.p (view self.now.img.now) f k) × (result ≤ self.now.p.e) }
+    {
+        if k == keys::HOME {
+            return f;
+        }
+        if k <= keys::HOME {
+            return self.far_key(f, k);
+        }
+        if k <= 355 {
+            return read(self.img, f, k);
+        }
+        if 4451 < k {
+            return self.far_key(f, k);
+        }
+        read(self.img, read(self.img, f, keys::up(k)), k)
+    }
 }

@@ -1,5 +1,6 @@
 // Keys: relative numbers in link order, of files without holes. 291 is the FIB, 292 + r block r, 288 - j pointer block -(4+j), 290 and
-// 289 are -2 and -3, and 0 is none.
+// 289 are -2 and -3, and 0 is none: `next_key` and `prev_key` of specs/Closed are numbers, and a link to none is nil, which is 0.
+// Keys and counts of blocks are plain numbers, since the functions are promised of each number in range, and docs name this module.
 ghost use Rattle.std.specs.Prelude.{◌≡◌, ◌≤◌, ◌<◌};
 ghost use Rattle.volume.specs.Keys.{up, slot, first, low};
 ghost use Rattle.volume.specs.Closed.{stays, has_key, nearest, next_key, prev_key, size_of, leading, entries_of};
@@ -41,7 +42,7 @@ pub fn slot(k: usize) -> usize
         return INDIRECT + 2 * (POINTER - k);
     }
     if k <= HOME {
-        return DOUBLE + 2 * drive::less(290, k);
+        return DOUBLE + 2 * 290usize.saturating_sub(k);
     }
     if k <= 355 {
         return DIRECT + 2 * (k - FIRST);
@@ -130,7 +131,7 @@ pub fn size_of(n: usize) -> usize
     requires { n ≤ 32767 }
     ensures { (result ≡ size_of n) × (result < 65536) }
 {
-    drive::less(289, low(n)) + (HOME - nearest(n)) + n + 1
+    289usize.saturating_sub(low(n)) + (HOME - nearest(n)) + n + 1
 }
 
 // How many entries it takes from the first of pointer block k on to reach the last of n blocks.
@@ -138,7 +139,7 @@ fn leading(n: usize, k: usize) -> usize
     requires { (n ≤ 32767) × (k < 291) }
     ensures { (result ≡ leading n k) × (result < 65536) }
 {
-    let m = drive::less(n, first(k));
+    let m = n.saturating_sub(first(k));
     if k <= POINTER { m } else { (m + 127) / 128 }
 }
 

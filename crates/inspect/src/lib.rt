@@ -1,28 +1,38 @@
 // Code that reads: the partition, candidates, and well formed files.
 #![tactic(auto)]
 
-ghost use Rattle.std.specs.Prelude.{◌≡◌, ◌*◌, ◌≤◌, ◌<◌, length};
+ghost use Rattle.std.specs.Prelude.{◌≡◌, ◌*◌, ◌≤◌, ◌<◌, length, Err, MatchResult};
 ghost use Rattle.image.specs.Image.{view};
 ghost use Rattle.volume.specs.Files.{candidate, is_file, is_malformed};
 ghost use Rattle.volume.specs.Answers.{image_good, part_good, partition, lowest_malformed};
 ghost use Rattle.volume.specs.Reads.{Lies};
+ghost use Rattle.inspect.specs.Parts.{IsPartition};
 
 use base::Refusal;
+use volume::Partition;
 use volume::words::{FIB, PARTITION_END, PARTITION_START, SERIAL};
-use volume::{Found, Part, Partition};
 
+pub mod file; // file.rt: a file, its length and its blocks
 pub mod form; // form.rt: whether a file is well formed
 pub mod index; // index.rt: a file's index
 pub mod keys; // keys.rt: relative numbers in link order
 pub mod numbers; // numbers.rt: relative numbers
 
-pub use form::well_formed;
-pub use index::{holder_of, len, name, read, spot};
+pub use file::File;
+pub use index::{len, read};
 pub use keys::{
     FIRST, HOME, POINTER, REACH, entries_of, has_key, low, nearest, next_key, prev_key, size_of,
     slot, stays, up,
 };
 pub use numbers::{blocks_to, has_number, is_number, key_of, last_good, number_of};
+
+// A good partition, in the image that it lies in.
+#[derive(Clone, Copy)]
+pub struct Volume<'a> {
+    pub img: &'a [u8],
+    pub p: Partition,
+    ghost lies: { Lies p img.now },
+}
 
 // Whether the drive is known and n bytes are an image for it.
 pub fn image_good(drive: usize, n: usize) -> bool
@@ -69,72 +79,75 @@ pub fn part_good(img: &[u8], drive: usize, n: usize, s: usize) -> bool
 }
 
 // The end of the partition at s.
-pub fn partition(img: &[u8], drive: usize, s: usize) -> Part
+pub fn partition(img: &[u8], drive: usize, s: usize) -> Result<usize, Refusal>
     ensures { result ≡ partition drive img.now s }
 {
     if !image_good(drive, img.len()) {
-        return Part::Refused(Refusal::BadImage);
+        return Err(Refusal::BadImage);
     }
     let n = img.len() / 528;
     if part_good(img, drive, n, s) {
-        Part::Good(drive::lda_block(drive, image::pair(img, s, PARTITION_END)))
+        Ok(drive::lda_block(drive, image::pair(img, s, PARTITION_END)))
     } else {
-        Part::Refused(Refusal::BadPartition)
+        Err(Refusal::BadPartition)
     }
 }
 
-// Whether f is a candidate of the partition s to e.
-pub fn candidate(img: &[u8], p: Partition, f: usize) -> bool
-    requires { Lies p img.now }
-    ensures { result ≡ candidate p (view img.now) f }
+// The opened partition at s, or why it is refused.
+pub fn open(img: &[u8], drive: usize, s: usize) -> Result<Volume<'_>, Refusal>
+    ensures { MatchResult result (λ v. IsPartition drive img.now s v.p v.img.now) (λ why. partition drive img.now s ≡ Err why) }
 {
-    if f <= p.s {
-        return false;
-    }
-    if p.e < f {
-        return false;
-    }
-    // Before the serial, whose parts must be asked: most blocks are no FIB.
-    if !numbers::has_number(img, f, FIB) {
-        return false;
-    }
-    drive::is_pda(p.drive, image::pair(img, f, SERIAL), f)
+    let e = partition(img, drive, s)?;
+    Ok(Volume {
+        img,
+        p: Partition { drive, s, e },
+    })
 }
 
-// Whether f is a file.
-pub fn is_file(img: &[u8], p: Partition, f: usize) -> bool
-    requires { Lies p img.now }
-    ensures { result ≡ is_file p (view img.now) f }
-{
-    if candidate(img, p, f) {
-        form::well_formed(img, p, f)
-    } else {
-        false
+impl Volume<'_> {
+    // Whether f is a candidate.
+    pub fn candidate(&self, f: usize) -> bool
+        ensures { result ≡ candidate self.now.p (view self.now.img.now) f }
+    {
+        if f <= self.p.s {
+            return false;
+        }
+        if self.p.e < f {
+            return false;
+        }
+        // Before the serial, whose parts must be asked: most blocks are no FIB.
+        if !numbers::has_number(self.img, f, FIB) {
+            return false;
+        }
+        drive::is_pda(self.p.drive, image::pair(self.img, f, SERIAL), f)
     }
-}
 
-// Whether f is a malformed candidate.
-fn is_malformed(img: &[u8], p: Partition, f: usize) -> bool
-    requires { Lies p img.now }
-    ensures { result ≡ is_malformed p (view img.now) f }
-{
-    if candidate(img, p, f) {
-        !form::well_formed(img, p, f)
-    } else {
-        false
-    }
-}
-
-// The lowest malformed candidate.
-pub fn lowest_malformed(img: &[u8], p: Partition) -> Found
-    requires { Lies p img.now }
-    ensures { result ≡ lowest_malformed p (view img.now) }
-{
-    let end = p.e + 1;
-    for f in p.s + 1..end {
-        if is_malformed(img, p, f) {
-            return Found::At(f);
+    // Whether f is a file.
+    pub fn is_file(&self, f: usize) -> bool
+        ensures { result ≡ is_file self.now.p (view self.now.img.now) f }
+    {
+        if self.candidate(f) {
+            self.well_formed(f)
+        } else {
+            false
         }
     }
-    Found::Nothing
+
+    // Whether f is a malformed candidate.
+    fn is_malformed(&self, f: usize) -> bool
+        ensures { result ≡ is_malformed self.now.p (view self.now.img.now) f }
+    {
+        if self.candidate(f) {
+            !self.well_formed(f)
+        } else {
+            false
+        }
+    }
+
+    // The lowest malformed candidate.
+    pub fn lowest_malformed(&self) -> Option<usize>
+        ensures { result ≡ lowest_malformed self.now.p (view self.now.img.now) }
+    {
+        (self.p.s + 1..self.p.e + 1).find(|&f| self.is_malformed(f))
+    }
 }

@@ -6,7 +6,7 @@ use mathlib.Core.Bool.{Bool, true, false, true≢false, ◌&&◌, ◌||◌}
 use Prim.Native.Nat.{ℕ, suc, ◌+◌, ◌-◌, ◌/◌, ◌%◌, ◌≤◌, ◌<◌}
 use native.Mathlib.Omega.{arith}
 use lib.Dec.{leb, ltb, eqb}
-use borrow.Author.Tests.{lt-ltb, le-ltb, ltb-true, ltb-false, eqb-true, eqb-false, eq-eqb, ne_eqb, le-leb, lt-leb}
+use borrow.Author.Tests.{lt-ltb, le-ltb, ltb-true, ltb-false, eqb-true, eqb-false, le-leb, lt-leb}
 use Rattle.base.specs.Tests.{pick, both, every, all}
 use Rattle.drive.specs.Address.{pda}
 use Rattle.image.specs.View.{View, pair}
@@ -20,7 +20,7 @@ use Rattle.volume.proofs.Index.{span_at, span_of, present_low, present_high, spo
 use Rattle.volume.proofs.Order.{Next, prev_one, least_is, least_present, above_below, above_next, below_prev}
 use Rattle.volume.specs.Closed.{stays, nearest, next_key, entries_of}
 use Rattle.volume.proofs.Closed.{up_stays, nearest_in, entry_asked}
-use Rattle.volume.proofs.Steps.{every_no, Passed, pass_next, pass_fails, pass_end}
+use Rattle.volume.proofs.Steps.{every_no}
 use Rattle.inspect.specs.Parts.{Opened}
 use Rattle.inspect.proofs.Laws.{opened_few, opened_read, read_is, read_bits}
 use Rattle.links.proofs.Laws.{key_pos, first_is, next_is, link_nil, link_is}
@@ -32,34 +32,13 @@ use Rattle.base.specs.Laws.{never, both_left}
 abbrev pub Tail : View → ℕ → ℕ → ℕ → ℕ → Bool
 Tail v n k q i = ltb (first (child k (slot_at i))) n || eqb (pair v q (slot_at i)) 0
 
--- the pass over those entries from the first that n blocks do not ask for: those below i are good
-pub record Tailing (v : View) (n k q i : ℕ) : Type 0 where
-  pub passed : Passed (Tail v n k q) 128 i (all 128 (Tail v n k q))
-  pub low : k < home
-  pub from : entries_of n k ≤ i
+-- of the m that are asked for each is good, and beyond them only nil
+module _ (v : View) (n k q : ℕ) {m : ℕ} (l : k < home) (e : m ≡ entries_of n k) (few : m ≤ 128) where
+  pub tail_asked : (i : ℕ) → i < m → Tail v n k q i ≡ true
+  tail_asked i h = rw (entry_asked n k i l (omega arith) ∙ lt-ltb i (entries_of n k) (omega (arith, e)))
 
-module _ {v : View} {n k q : ℕ} where
-  pub tail_starts : {m : ℕ} → k < home → m ≡ entries_of n k → m ≤ 128 → Tailing v n k q m
-  tail_starts h is a = record {
-    passed = record { each = λ i l. rw (entry_asked n k i h (omega arith) ∙ lt-ltb i (entries_of n k) (omega arith)); is = refl };
-    low = h;
-    from = omega (arith, is);
-  }
-
-  module _ {i : ℕ} (g : Tailing v n k q i) where
-    pub tail_end : 128 ≤ i → true ≡ all 128 (Tail v n k q)
-    tail_end l = pass_end g.passed l
-
-    -- beyond those that are asked for only nil passes
-    module _ (l : i < 128) {x : ℕ} (h : x ≡ pair v q (slot_at i)) where
-      entry_is : eqb x 0 ≡ Tail v n k q i
-      entry_is = rw (entry_asked n k i g.low l ∙ le-ltb i (entries_of n k) g.from, h)
-
-      pub tail_fails : x ≢ 0 → false ≡ all 128 (Tail v n k q)
-      tail_fails z = pass_fails g.passed l entry_is (ne_eqb x 0 z)
-
-      pub tail_next : x ≡ 0 → Tailing v n k q (i + 1)
-      tail_next z = record { passed = pass_next g.passed entry_is (eq-eqb x 0 z); low = g.low; from = omega (arith, g.from) }
+  pub tail_rest : (i : ℕ) → m ≤ i → i < 128 → eqb (pair v q (slot_at i)) 0 ≡ Tail v n k q i
+  tail_rest i h b = rw (entry_asked n k i l b ∙ le-ltb i (entries_of n k) (omega (arith, e)))
 
 -- ---- one key
 

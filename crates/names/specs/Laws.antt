@@ -1,17 +1,18 @@
--- What the definitions of a good name say to the code, which goes by one test after another.
-use Rattle.std.specs.Prelude.{◌≡◌, ◌≢◌, Bool, not, ◌||◌, List, ℕ, ◌+◌, ◌≤◌, ◌<◌, leb}
+-- What the definitions of a good name say to the code, which goes by one test after another, and searches for the first place.
+use Rattle.std.specs.Prelude.{◌≡◌, ◌≢◌, Bool, not, ◌||◌, List, ℕ, ◌+◌, ◌≤◌, ◌<◌, leb, is_none, is_some, Option, Some, None}
 use Rattle.std.proofs.Math.Path.{refl}
 use Rattle.std.proofs.Common.{sym, ap, ◌∙◌}
 use Rattle.std.proofs.Math.Bool.{true, false}
 use native.Mathlib.Omega.{arith}
 use Rattle.std.proofs.Math.Dec.{eqb}
-use borrow.Author.Tests.{le-ltb, lt-ltb, le-leb, lt-leb, leb-true, eq-eqb, ne_eqb, not-true, not-false}
-use Rattle.base.specs.Tests.{pick, both}
+use borrow.Author.Tests.{le-ltb, lt-ltb, le-leb, lt-leb, leb-true, eq-eqb, ne_eqb}
+use Rattle.base.specs.Tests.{both, all}
 use Rattle.base.specs.Laws.{all_of, both_right}
-use Rattle.volume.proofs.Steps.{all_no, both_no_2, lowest_at, lowest_passes, Searching, search_starts_as}
+use Rattle.volume.proofs.Steps.{all_no, both_no_2, lowest_at, lowest_passes}
 use Rattle.volume.proofs.Readings.{lowest_none}
-use Rattle.volume.specs.declared.Found.TheVariants.{At, Nothing}
-use Rattle.volume.specs.Names.{name_length, character, has, spells, control, reserved, final, dots, broken, good_length, good_name, first_broken}
+use Rattle.volume.specs.declared.Rule.{Rule}
+use Rattle.volume.specs.declared.Rule.TheVariants as rules
+use Rattle.volume.specs.Names.{name_length, character, has, spells, final, dots, broken, broken_number, good_length, good_name, first_broken}
 
 module _ (text : List ℕ) (i : ℕ) where
   -- ---- a character
@@ -57,22 +58,26 @@ module _ (text : List ℕ) (i : ℕ) where
 
   -- ---- a rule broken, or none
 
-  pub broken_few : broken text i ≤ 5
-  unfolding broken
-  broken_few = go (control (character text i)) (reserved (character text i)) (final text i) (dots text i)
+  pub broken_few : broken_number (broken text i) ≤ 5
+  broken_few = go (broken text i)
     where
-      go : (a b c d : Bool) → pick a 2 (pick b 3 (pick c 4 (pick d 5 0))) ≤ 5
-      go true b c d = omega arith
-      go false true c d = omega arith
-      go false false true d = omega arith
-      go false false false true = omega arith
-      go false false false false = omega arith
+      go : (r : Option Rule) → broken_number r ≤ 5
+      go (Some rules.Length) = omega arith
+      go (Some rules.Control) = omega arith
+      go (Some rules.Reserved) = omega arith
+      go (Some rules.Final) = omega arith
+      go (Some rules.Dots) = omega arith
+      go None = omega arith
 
-  pub breaks : (x : ℕ) → x ≡ broken text i → (x ≡ 0 → ⊥) → not (eqb (broken text i) 0) ≡ true
-  breaks x q h = rw (← q, ne_eqb x 0 h)
+  pub breaks : (x : Option Rule) → x ≡ broken text i → (x ≡ None → ⊥) → is_some (broken text i) ≡ true
+  breaks x q h = go x q h
+    where
+      go : (y : Option Rule) → y ≡ broken text i → (y ≡ None → ⊥) → is_some (broken text i) ≡ true
+      go (Some r) z k = ap is_some (sym z)
+      go None z k = absurd (k refl)
 
-  pub keeps : (x : ℕ) → x ≡ broken text i → x ≡ 0 → not (eqb (broken text i) 0) ≡ false
-  keeps x q h = rw (← q, eq-eqb x 0 h)
+  pub keeps : (x : Option Rule) → x ≡ broken text i → x ≡ None → is_some (broken text i) ≡ false
+  keeps x q h = ap is_some (sym q ∙ h)
 
 -- ---- the length
 
@@ -99,23 +104,20 @@ length_is p q h = ap good_length (sym p) ∙ sym q ∙ h
 -- ---- the name
 
 module _ (text : List ℕ) where
-  pub name_long : good_length (name_length text) ≡ false → good_name text ≡ false
-  unfolding good_name both
-  name_long h = rw (good_name, h)
-
-  -- the code's search starts at place 0
-  pub starts : (n b : ℕ) → n ≡ name_length text → b ≡ 0 → Searching (λ i. not (eqb (broken text i) 0)) n b (first_broken text)
-  unfolding first_broken
-  starts n b q z = rw (z) (search_starts_as _ 0 n (name_length text) (omega (arith, q)))
-
-  pub found_inside : (i : ℕ) → first_broken text ≡ At i → i < name_length text
+  pub found_inside : (i : ℕ) → first_broken text ≡ Some i → i < name_length text
   unfolding first_broken
   found_inside i q = omega (arith, lowest_at _ 0 (name_length text) i q)
 
-  pub name_bad : (i : ℕ) → good_length (name_length text) ≡ true → first_broken text ≡ At i → good_name text ≡ false
-  unfolding good_name both first_broken
-  name_bad i h q = rw (good_name, h) (all_no (name_length text) (λ j. eqb (broken text j) 0) i (found_inside i q) (not-true _ (lowest_passes _ 0 (name_length text) i q)))
+  -- no place breaks a rule just where the search finds none
+  unbroken : all (name_length text) (λ i. is_none (broken text i)) ≡ is_none (first_broken text)
+  unfolding first_broken
+  unbroken = go (first_broken text) refl
+    where
+      go : (x : Option ℕ) → first_broken text ≡ x → all (name_length text) (λ i. is_none (broken text i)) ≡ is_none x
+      go (Some i) q = all_no (name_length text) (λ j. is_none (broken text j)) i (found_inside i q) (ap not (lowest_passes _ 0 (name_length text) i q))
+      go None q = all_of (name_length text) (λ j. is_none (broken text j)) (λ i l. ap not (lowest_none _ (name_length text) 0 q i (omega arith) (omega (arith, l))))
 
-  pub name_good : good_length (name_length text) ≡ true → first_broken text ≡ Nothing → good_name text ≡ true
-  unfolding good_name both first_broken
-  name_good h q = rw (good_name, h) (all_of (name_length text) (λ j. eqb (broken text j) 0) (λ i l. not-false _ (lowest_none _ (name_length text) 0 q i (omega arith) (omega (arith, l)))))
+  -- a name is good just where its length is and the search finds nothing
+  pub good_is : good_name text ≡ both (good_length (name_length text)) (is_none (first_broken text))
+  unfolding good_name
+  good_is = ap (both (good_length (name_length text))) unbroken

@@ -1,15 +1,13 @@
 -- Demand 3 in the terms of the exported calls' contracts. Each image here is what an exported call made of the one before it, with the
 -- answer that it gave: `Changed` is the contract of the five changing calls, and the equation with `checked` that of check. The outcome 0
 -- is PERQ_DONE. The count of stores made, which the stopped call answers, tells which of the two its file is.
-use Rattle.std.specs.Prelude.{◌≡◌, refl, ◌≢◌, List, true, ℕ, ◌≤◌, ltb, length, take}
+use Rattle.volume.specs.Outcome.{Outcome}
+use Rattle.std.specs.Prelude.{◌≡◌, refl, ◌≢◌, List, true, ℕ, ◌≤◌, ltb, length, take, Some, None, Ok, Err}
 use Rattle.std.proofs.Common.{sym, ap, ◌∙◌, subst, arith}
 use Rattle.base.specs.Tests.{pick}
 use Rattle.volume.specs.Answers.{checked}
 use Rattle.volume.specs.Calls.{Call, repair, Planned, planned, decided, Answered}
 use Rattle.volume.specs.declared.Answer.{Answer}
-use Rattle.volume.specs.declared.Found.TheVariants.{At}
-use Rattle.volume.specs.declared.Outcome.{Outcome}
-use Rattle.volume.specs.declared.Outcome.TheVariants.{Done, Absent, Refused}
 use Rattle.crash.specs.Statement.{Image, Proper, is_done, Accepted, whole, SameFile, named}
 use Rattle.crash.specs.Answering as inner
 use Rattle.crash.proofs.Answering as proved
@@ -37,25 +35,25 @@ module _ (d s : ℕ) where
   pub record Outlives (l : List ℕ) (c : Call) (r : PerqAnswer) (l' : List ℕ) (r' : PerqAnswer) : Type 0 where
     pub done : r'.outcome ≡ 0
     pub accepted : (a : PerqAnswer) → Checked l' a → a.outcome ≡ 0
-    pub others : (f : ℕ) → named d s l c ≢ At f → SameFile d s l l' f
-    pub all_or_none : (f : ℕ) → named d s l c ≡ At f → SameFile d s (pick (ltb 0 (decided (planned d l s c).deciding r.made)) (whole d s l c) l) l' f
+    pub others : (f : ℕ) → named d s l c ≢ Some f → SameFile d s l l' f
+    pub all_or_none : (f : ℕ) → named d s l c ≡ Some f → SameFile d s (pick (ltb 0 (decided (planned d l s c).deciding r.made)) (whole d s l c) l) l' f
 
 -- ---- the answer's numbers
 
 done_zero : (n : ℕ) (x : Outcome) → is_done x ≡ true → (flat n x).outcome ≡ 0
-done_zero n (Done a b c) q = refl
-done_zero n Absent q = let z : ◌≡◌ {A = ℕ} 0 1 = cc in absurd (omega arith)
-done_zero n (Refused y) q = let z : ◌≡◌ {A = ℕ} 0 1 = cc in absurd (omega arith)
+done_zero n (Ok (Some x)) q = refl
+done_zero n (Ok None) q = let z : ◌≡◌ {A = ℕ} 0 1 = cc in absurd (omega arith)
+done_zero n (Err y) q = let z : ◌≡◌ {A = ℕ} 0 1 = cc in absurd (omega arith)
 
 zero_done : (n : ℕ) (x : Outcome) → (flat n x).outcome ≡ 0 → is_done x ≡ true
-zero_done n (Done a b c) q = refl
-zero_done n Absent q = absurd (omega arith)
-zero_done n (Refused y) q = absurd (omega arith)
+zero_done n (Ok (Some x)) q = refl
+zero_done n (Ok None) q = absurd (omega arith)
+zero_done n (Err y) q = absurd (omega arith)
 
 flat_made : (n : ℕ) (x : Outcome) → (flat n x).made ≡ n
-flat_made n (Done a b c) = refl
-flat_made n Absent = refl
-flat_made n (Refused y) = refl
+flat_made n (Ok (Some x)) = refl
+flat_made n (Ok None) = refl
+flat_made n (Err y) = refl
 
 -- ---- the call below, and its answer
 

@@ -1,5 +1,7 @@
 -- Every number that a call answers fits 32 bits: blocks, offsets and counts of a good partition are small.
-use Rattle.std.specs.Prelude.{◌≡◌, Bool, not, List, [], ◌∷◌, leb, eqb, length, take}
+use Rattle.volume.specs.declared.Unfit.TheVariants.{Length, Name}
+use Rattle.volume.specs.Outcome.{Outcome}
+use Rattle.std.specs.Prelude.{◌≡◌, Bool, not, List, [], ◌∷◌, leb, eqb, length, take, Option, Some, None, Ok, Err}
 use Rattle.std.proofs.Math.Path.{refl}
 use Rattle.std.proofs.Common.{sym, ap₂, ◌∙◌, subst}
 use Rattle.std.proofs.Math.Bool.{true, false}
@@ -23,35 +25,29 @@ use Rattle.volume.proofs.Steps.{lowest_at}
 use Rattle.volume.specs.Answers.{partition, in_partition, lowest, lowest_malformed, file_above, found_file, next_file, tallied, check_clean, check_in, checked, of_file, show_in, shown, either_of, shown_pair, read_from, plain, described_as, extract_in, extracted}
 use Rattle.volume.specs.Calls.{Planned, refuse, lending, lent_block, lent_text, unmarred, through, create_in, append_in, write_in, describe_in, destroy_in, repair_in, planned, Answered, Call, create, write, describe, destroy, repair}
 use Rattle.volume.specs.Writes.{needs}
-use Rattle.volume.specs.declared.Lent.{Lent}
-use Rattle.volume.specs.declared.Lent.TheVariants.{Fine, WrongLength, WrongName}
-use Rattle.volume.specs.declared.Found.{Found}
-use Rattle.volume.specs.declared.Found.TheVariants.{At, Nothing}
-use Rattle.volume.specs.declared.Part.TheVariants as part
-use Rattle.volume.specs.declared.Outcome.{Outcome}
-use Rattle.volume.specs.declared.Outcome.TheVariants.{Done, Absent, Refused}
+use Rattle.volume.specs.Outcome.{Lent}
 use Rattle.volume.specs.declared.Answer.{Answer}
-use Rattle.perq.specs.Flat.{flat, Changed}
+use Rattle.perq.specs.Flat.{flat, Changed, image_number}
 use Rattle.perq.specs.declared.PerqAnswer.{PerqAnswer}
 use Rattle.frame.specs.Sound.{free_in, head_free}
 
 -- each number of an answer fits
 abbrev pub OutcomeFits : Outcome → Type 0
-OutcomeFits (Done a b c) = (a < 4294967296) × (b < 4294967296) × (c < 4294967296)
-OutcomeFits Absent = Unit {0}
-OutcomeFits (Refused y) = culprit y < 4294967296
+OutcomeFits (Ok (Some x)) = (x.0 < 4294967296) × (x.1 < 4294967296) × (x.2 < 4294967296)
+OutcomeFits (Ok None) = Unit {0}
+OutcomeFits (Err y) = culprit y < 4294967296
 
 pub pick_fits : (t : Bool) (x y : Outcome) → (t ≡ true → OutcomeFits x) → OutcomeFits y → OutcomeFits (pick t x y)
 pick_fits true x y h k = h refl
 pick_fits false x y h k = k
 
 -- a search finds nothing in no range; a count is at most its bound
-lowest_none : (p : ℕ → Bool) (a n f : ℕ) → n ≡ 0 → lowest p a n ≡ At f → ⊥
+lowest_none : (p : ℕ → Bool) (a n f : ℕ) → n ≡ 0 → lowest p a n ≡ Some f → ⊥
 unfolding lowest
 lowest_none p a zero f z q = let y : ◌≡◌ {A = ℕ} 0 1 = cc in omega arith
 lowest_none p a (suc n) f z q = omega arith
 
-lowest_to : (p : ℕ → Bool) (a e f : ℕ) → lowest p (a + 1) (e - a) ≡ At f → f ≤ e
+lowest_to : (p : ℕ → Bool) (a e f : ℕ) → lowest p (a + 1) (e - a) ≡ Some f → f ≤ e
 lowest_to p a e f q = go (leb a e) refl
   where
     go : (t : Bool) → leb a e ≡ t → f ≤ e
@@ -68,14 +64,14 @@ count_most (suc k) P = go (P k) (count_most k P)
     go false h = omega arith
 
 -- 1 and 2 name no block
-pub part_fits : (d : ℕ) (l : List ℕ) (s : ℕ) (k : ℕ → Outcome) → ((e : ℕ) → partition d l s ≡ part.Good e → OutcomeFits (k e)) → OutcomeFits (in_partition Refused (partition d l s) k)
-part_fits = in_part OutcomeFits Refused (omega arith) (omega arith)
+pub part_fits : (d : ℕ) (l : List ℕ) (s : ℕ) (k : ℕ → Outcome) → ((e : ℕ) → partition d l s ≡ Ok e → OutcomeFits (k e)) → OutcomeFits (in_partition Err (partition d l s) k)
+part_fits = in_part OutcomeFits Err (omega arith) (omega arith)
 
 module _ (π : Partition) (v : View) (few : π.e < 69552) where
   file_fits : (f : ℕ) (k : Outcome) → (candidate π v f ≡ true → well_formed π v f ≡ true → OutcomeFits k) → OutcomeFits (of_file π v f k)
   file_fits f k h = go (candidate π v f) refl (well_formed π v f) refl
     where
-      go : (t : Bool) → candidate π v f ≡ t → (u : Bool) → well_formed π v f ≡ u → OutcomeFits (pick t (pick u k (Refused (Malformed f))) (Refused NoCandidate))
+      go : (t : Bool) → candidate π v f ≡ t → (u : Bool) → well_formed π v f ≡ u → OutcomeFits (pick t (pick u k (Err (Malformed f))) (Err NoCandidate))
       go true c true w = h c w
       go true c false w = omega (arith, (candidate_in π v f c).1)
       go false c u w = omega arith
@@ -87,24 +83,24 @@ module _ (π : Partition) (v : View) (few : π.e < 69552) where
       m : ℕ
       m = π.e - π.s
 
-      go : (x : Found) → lowest_malformed π v ≡ x → OutcomeFits (check_clean π v x)
-      go (At f) q = omega (arith, lowest_at (is_malformed π v) (π.s + 1) (π.e - π.s) f q)
-      go Nothing q = pick_fits (sound π v) _ _
+      go : (x : Option ℕ) → lowest_malformed π v ≡ x → OutcomeFits (check_clean π v x)
+      go (Some f) q = omega (arith, lowest_at (is_malformed π v) (π.s + 1) (π.e - π.s) f q)
+      go None q = pick_fits (sound π v) _ _
           (λ _. (omega (arith, count_most m (λ i. is_file π v (block_at π i))), omega (arith, count_most m (λ i. owned π v (block_at π i))), omega (arith, count_most m (λ i. not (owned π v (block_at π i)))))) (omega arith)
 
   next_fits : (b : ℕ) → OutcomeFits (found_file (file_above π v b))
   unfolding file_above
   next_fits b = go (file_above π v b) refl
     where
-      go : (x : Found) → file_above π v b ≡ x → OutcomeFits (found_file x)
-      go (At f) q = (omega (arith, lowest_to (is_file π v) (pick (ltb b π.s) π.s b) π.e f q), omega arith, omega arith)
-      go Nothing q = tt
+      go : (x : Option ℕ) → file_above π v b ≡ x → OutcomeFits (found_file x)
+      go (Some f) q = (omega (arith, lowest_to (is_file π v) (pick (ltb b π.s) π.s b) π.e f q), omega arith, omega arith)
+      go None q = tt
 
   show_fits : (f r : ℕ) → OutcomeFits (show_in π v f r)
   unfolding show_in
   show_fits f r = file_fits f _ (λ c w. pick_fits (ltb r reach) _ _ (λ _. go c w (ltb r (len v f)) refl) (omega arith))
     where
-      go : candidate π v f ≡ true → well_formed π v f ≡ true → (t : Bool) → ltb r (len v f) ≡ t → OutcomeFits (pick t (Done (528 * name π v f r + 16) 512 0) Absent)
+      go : candidate π v f ≡ true → well_formed π v f ≡ true → (t : Bool) → ltb r (len v f) ≡ t → OutcomeFits (pick t (Ok (Some (528 * name π v f r + 16, 512, 0))) (Ok None))
       go c w true q = (omega (arith, few, (inside_of π (name π v f r) (member π v f c w (292 + r) ((wf_of π v f w).full (292 + r) (omega (arith, first_data (292 + r) (omega arith), ltb-true r (len v f) q)))).ins).1), omega arith, omega arith)
       go c w false q = tt
 
@@ -139,9 +135,9 @@ module _ (d : ℕ) (l : List ℕ) (s : ℕ) where
   extracted_fits f n = part_fits d l s _ (λ e g. extract_fits (partition_of d s e) (view l) (lies d l s e g).few f n)
 
 pub plain_fits : (x : Outcome) → OutcomeFits x → OutcomeFits (plain x)
-plain_fits (Done a b c) h = (omega arith, omega arith, omega arith)
-plain_fits Absent h = h
-plain_fits (Refused y) h = h
+plain_fits (Ok (Some x)) h = (omega arith, omega arith, omega arith)
+plain_fits (Ok None) h = h
+plain_fits (Err y) h = h
 
 pub read_fits : (d : ℕ) (l : List ℕ) (s f r n : ℕ) → OutcomeFits (plain (read_from d l s f r n))
 read_fits d l s f r n = plain_fits (read_from d l s f r n) (read_from_fits d l s f r n)
@@ -152,18 +148,18 @@ unfolding shown_pair
 shown_pair_fits d original repaired s f r = go (shown d repaired s f r) (shown_fits d repaired s f r) (shown_fits d original s f r)
   where
     go : (x : Outcome) → OutcomeFits x → OutcomeFits (shown d original s f r) → OutcomeFits (either_of x (shown d original s f r)).outcome
-    go (Done a b c) h k = h
-    go Absent h k = tt
-    go (Refused y) h k = k
+    go (Ok (Some x)) h k = h
+    go (Ok None) h k = tt
+    go (Err y) h k = k
 
-pub shown_pair_image : (d : ℕ) (original repaired : List ℕ) (s f r : ℕ) → (shown_pair d original repaired s f r).image < 4294967296
+pub shown_pair_image : (d : ℕ) (original repaired : List ℕ) (s f r : ℕ) → image_number (shown_pair d original repaired s f r).image < 4294967296
 unfolding shown_pair
 shown_pair_image d original repaired s f r = go (shown d repaired s f r)
   where
-    go : (x : Outcome) → (either_of x (shown d original s f r)).image < 4294967296
-    go (Done a b c) = omega arith
-    go Absent = omega arith
-    go (Refused y) = omega arith
+    go : (x : Outcome) → image_number (either_of x (shown d original s f r)).image < 4294967296
+    go (Ok (Some x)) = omega arith
+    go (Ok None) = omega arith
+    go (Err y) = omega arith
 
 -- ---- changing calls
 
@@ -174,21 +170,21 @@ pickp_fits false x y h k = k refl
 done_fits : (0 < 4294967296) × (0 < 4294967296) × (0 < 4294967296)
 done_fits = (omega arith, omega arith, omega arith)
 
-planned_part : (d : ℕ) (l : List ℕ) (s : ℕ) (k : ℕ → Planned) → ((e : ℕ) → partition d l s ≡ part.Good e → OutcomeFits (k e).outcome) → OutcomeFits (in_partition refuse (partition d l s) k).outcome
+planned_part : (d : ℕ) (l : List ℕ) (s : ℕ) (k : ℕ → Planned) → ((e : ℕ) → partition d l s ≡ Ok e → OutcomeFits (k e).outcome) → OutcomeFits (in_partition refuse (partition d l s) k).outcome
 planned_part = in_part (λ x. OutcomeFits x.outcome) refuse (omega arith) (omega arith)
 
 planned_clean : (π : Partition) (v : View) (x : Planned) → π.e < 69552 → π.s ≤ π.e → OutcomeFits x.outcome → OutcomeFits (unmarred (lowest_malformed π v) x).outcome
 unfolding lowest_malformed
 planned_clean π v x few o h = go (lowest_malformed π v) refl
   where
-    go : (y : Found) → lowest_malformed π v ≡ y → OutcomeFits (unmarred y x).outcome
-    go (At f) q = omega (arith, lowest_at (is_malformed π v) (π.s + 1) (π.e - π.s) f q)
-    go Nothing q = h
+    go : (y : Option ℕ) → lowest_malformed π v ≡ y → OutcomeFits (unmarred y x).outcome
+    go (Some f) q = omega (arith, lowest_at (is_malformed π v) (π.s + 1) (π.e - π.s) f q)
+    go None q = h
 
 lending_fits : (x : Lent) (k : Planned) → OutcomeFits k.outcome → OutcomeFits (lending x k).outcome
-lending_fits Fine k h = h
-lending_fits WrongLength k h = omega arith
-lending_fits WrongName k h = omega arith
+lending_fits (Ok u) k h = h
+lending_fits (Err Length) k h = omega arith
+lending_fits (Err Name) k h = omega arith
 
 through_fits : (d : ℕ) (l : List ℕ) (s : ℕ) (lent : Lent) (k : Partition → Planned)
     → ((e : ℕ) → e < 69552 → sound (partition_of d s e) (view l) ≡ true → OutcomeFits (k (partition_of d s e)).outcome) → OutcomeFits (through d l s lent k).outcome
@@ -234,10 +230,10 @@ module _ (d : ℕ) (l : List ℕ) (s e : ℕ) where
 
 pub planned_fits : (d : ℕ) (l : List ℕ) (s : ℕ) (c : Call) → OutcomeFits (planned d l s c).outcome
 unfolding planned
-planned_fits d l s (create kind) = through_fits d l s Fine (λ π. create_in π (view l) kind) (λ e few ok. create_fits d l s e few ok kind)
+planned_fits d l s (create kind) = through_fits d l s (Ok tt) (λ π. create_in π (view l) kind) (λ e few ok. create_fits d l s e few ok kind)
 planned_fits d l s (write f r block) = through_fits d l s (lent_block block) (λ π. write_in π (view l) f r (words block)) (λ e few ok. write_fits d l s e f r (words block))
 planned_fits d l s (describe f text) = through_fits d l s (lent_text text) (λ π. describe_in π (view l) f (words text)) (λ e few ok. describe_fits d l s e f (words text))
-planned_fits d l s (destroy f) = through_fits d l s Fine (λ π. destroy_in π (view l) f) (λ e few ok. destroy_fits d l s e f)
+planned_fits d l s (destroy f) = through_fits d l s (Ok tt) (λ π. destroy_in π (view l) f) (λ e few ok. destroy_fits d l s e f)
 planned_fits d l s repair =
     planned_part d l s (λ e. unmarred (lowest_malformed (partition_of d s e) (view l)) (repair_in (partition_of d s e) (view l)))
     (λ e g. let i = lies d l s e g in planned_clean (partition_of d s e) (view l) (repair_in (partition_of d s e) (view l)) i.few (omega (arith, i.order)) (repair_fits d l s e))

@@ -15,12 +15,8 @@ pub extern "C" fn perq_create(
 ) -> PerqAnswer
     ensures { Changed limit (planned drive image.old s (create kind)) image.old image.new result }
 {
-    let d = crate::wide(drive);
-    let p = crate::wide(s);
-    let n = crate::wide(limit);
-    let x = change::create(image, d, p, kind, n);
-    let o = x.outcome;
-    crate::flat(x.made, o)
+    let x = change::create(image, drive as usize, s as usize, kind, limit as usize);
+    crate::flat(x.made, x.outcome)
 }
 
 // Write 512 bytes at block r of file f.
@@ -36,14 +32,16 @@ pub extern "C" fn perq_write(
 ) -> PerqAnswer
     ensures { Changed limit (planned drive image.old s (write f r buffer.now)) image.old image.new result }
 {
-    let d = crate::wide(drive);
-    let p = crate::wide(s);
-    let g = crate::wide(f);
-    let k = crate::wide(r);
-    let n = crate::wide(limit);
-    let x = write::write(image, d, p, g, k, buffer, n);
-    let o = x.outcome;
-    crate::flat(x.made, o)
+    let x = write::write(
+        image,
+        drive as usize,
+        s as usize,
+        f as usize,
+        r as usize,
+        buffer,
+        limit as usize,
+    );
+    crate::flat(x.made, x.outcome)
 }
 
 // Set the description of file f.
@@ -58,13 +56,15 @@ pub extern "C" fn perq_describe(
 ) -> PerqAnswer
     ensures { Changed limit (planned drive image.old s (describe f buffer.now)) image.old image.new result }
 {
-    let d = crate::wide(drive);
-    let p = crate::wide(s);
-    let g = crate::wide(f);
-    let n = crate::wide(limit);
-    let x = change::describe(image, d, p, g, buffer, n);
-    let o = x.outcome;
-    crate::flat(x.made, o)
+    let x = change::describe(
+        image,
+        drive as usize,
+        s as usize,
+        f as usize,
+        buffer,
+        limit as usize,
+    );
+    crate::flat(x.made, x.outcome)
 }
 
 // Destroy file f.
@@ -78,13 +78,14 @@ pub extern "C" fn perq_destroy(
 ) -> PerqAnswer
     ensures { Changed limit (planned drive image.old s (destroy f)) image.old image.new result }
 {
-    let d = crate::wide(drive);
-    let p = crate::wide(s);
-    let g = crate::wide(f);
-    let n = crate::wide(limit);
-    let x = destroy::destroy(image, d, p, g, n);
-    let o = x.outcome;
-    crate::flat(x.made, o)
+    let x = destroy::destroy(
+        image,
+        drive as usize,
+        s as usize,
+        f as usize,
+        limit as usize,
+    );
+    crate::flat(x.made, x.outcome)
 }
 
 // Repair the partition.
@@ -92,10 +93,6 @@ pub extern "C" fn perq_destroy(
 pub extern "C" fn perq_repair(image: &mut [u8], drive: u32, s: u32, limit: u32) -> PerqAnswer
     ensures { Changed limit (planned drive image.old s repair) image.old image.new result }
 {
-    let d = crate::wide(drive);
-    let p = crate::wide(s);
-    let n = crate::wide(limit);
-    let x = repair::repair(image, d, p, n);
-    let o = x.outcome;
-    crate::flat(x.made, o)
+    let x = repair::repair(image, drive as usize, s as usize, limit as usize);
+    crate::flat(x.made, x.outcome)
 }

@@ -17,9 +17,10 @@ pub extern "C" fn perq_look_up(
 ) -> PerqAnswer
     ensures { result ≡ flat 0 (look_up drive image.now s rule.now path.now) }
 {
-    let d = crate::wide(drive);
-    let p = crate::wide(s);
-    crate::flat(0, directory::look_up(image, d, p, rule, path))
+    crate::flat(
+        0,
+        directory::look_up(image, drive as usize, s as usize, rule, path),
+    )
 }
 
 // The tree, as many rows of 32 bytes as fit.
@@ -33,7 +34,5 @@ pub extern "C" fn perq_tree(
 ) -> PerqAnswer
     ensures { (result ≡ flat 0 (treed drive image.now s rule.now (length rows.old)).outcome) × (rows.new ≡ lay rows.old 0 (treed drive image.now s rule.now (length rows.old)).rows) }
 {
-    let d = crate::wide(drive);
-    let p = crate::wide(s);
-    crate::flat(0, tree::tree(image, d, p, rule, rows))
+    crate::flat(0, tree::tree(image, drive as usize, s as usize, rule, rows))
 }

@@ -6,11 +6,10 @@ ghost use Rattle.base.specs.Refusals.{number, culprit};
 ghost use Rattle.drive.specs.Answers.{lbn_to_pda, pda_to_lbn, lbn_to_lda, lda_to_lbn, lbn_to_file_id, file_id_to_lbn};
 ghost use Rattle.drive.specs.Fits.{Fits};
 ghost use Rattle.perq.specs.Fits.{OutcomeFits};
-ghost use Rattle.perq.specs.Flat.{answer, flat_converted, flat, flat_from};
+ghost use Rattle.perq.specs.Flat.{answer, flat_converted, flat, image_number, flat_from};
 
 use base::Refusal;
-use drive::Converted;
-use volume::Outcome;
+use volume::{Outcome, Source};
 
 mod changes; // changes.rt: the calls that change the image
 mod directories; // directories.rt: the calls that read directories
@@ -27,12 +26,6 @@ pub struct PerqAnswer {
     pub a: u32,
     pub b: u32,
     pub c: u32,
-}
-
-fn wide(x: u32) -> usize
-    ensures { (result ≡ x) × (result < 4294967296) }
-{
-    x as usize
 }
 
 fn narrow(x: usize) -> u32
@@ -75,13 +68,13 @@ fn came_to(outcome: u32, made: usize, a: usize, b: usize, c: usize) -> PerqAnswe
 }
 
 // A conversion's answer.
-fn converted(x: Converted) -> PerqAnswer
+fn converted(x: Result<usize, Refusal>) -> PerqAnswer
     requires { Fits x }
     ensures { result ≡ flat_converted x }
 {
     match x {
-        Converted::Number(n) => came_to(0, 0, n, 0, 0),
-        Converted::Refused(why) => refused(why, 0, 0),
+        Ok(n) => came_to(0, 0, n, 0, 0),
+        Err(why) => refused(why, 0, 0),
     }
 }
 
@@ -91,21 +84,32 @@ fn flat(made: usize, x: Outcome) -> PerqAnswer
     ensures { result ≡ flat made x }
 {
     match x {
-        Outcome::Done(a, b, c) => came_to(0, made, a, b, c),
-        Outcome::Absent => came_to(1, made, 0, 0, 0),
-        Outcome::Refused(why) => refused(why, made, 0),
+        Ok(Some((a, b, c))) => came_to(0, made, a, b, c),
+        Ok(None) => came_to(1, made, 0, 0, 0),
+        Err(why) => refused(why, made, 0),
+    }
+}
+
+// The number by which c names an image of a pair.
+fn image_number(image: Source) -> usize
+    ensures { (result ≡ image_number image) × (result < 4294967296) }
+{
+    match image {
+        Source::Repaired => 1,
+        Source::Original => 2,
     }
 }
 
 // The answer of show of a pair, which `image` gave.
-fn flat_from(image: usize, x: Outcome) -> PerqAnswer
-    requires { (image < 4294967296) × (OutcomeFits x) }
+fn flat_from(image: Source, x: Outcome) -> PerqAnswer
+    requires { OutcomeFits x }
     ensures { result ≡ flat_from image x }
 {
+    let image = image_number(image);
     match x {
-        Outcome::Done(a, b, _) => came_to(0, 0, a, b, image),
-        Outcome::Absent => came_to(1, 0, 0, 0, image),
-        Outcome::Refused(why) => refused(why, 0, image),
+        Ok(Some((a, b, _))) => came_to(0, 0, a, b, image),
+        Ok(None) => came_to(1, 0, 0, 0, image),
+        Err(why) => refused(why, 0, image),
     }
 }
 

@@ -12,9 +12,7 @@ use crate::PerqAnswer;
 pub extern "C" fn perq_check(image: &[u8], drive: u32, s: u32) -> PerqAnswer
     ensures { result ≡ flat 0 (checked drive image.now s) }
 {
-    let d = crate::wide(drive);
-    let p = crate::wide(s);
-    crate::flat(0, verify::check(image, d, p))
+    crate::flat(0, verify::check(image, drive as usize, s as usize))
 }
 
 // The lowest file above `after`.
@@ -22,10 +20,10 @@ pub extern "C" fn perq_check(image: &[u8], drive: u32, s: u32) -> PerqAnswer
 pub extern "C" fn perq_next_file(image: &[u8], drive: u32, s: u32, after: u32) -> PerqAnswer
     ensures { result ≡ flat 0 (next_file drive image.now s after) }
 {
-    let d = crate::wide(drive);
-    let p = crate::wide(s);
-    let b = crate::wide(after);
-    crate::flat(0, listing::next_file(image, d, p, b))
+    crate::flat(
+        0,
+        listing::next_file(image, drive as usize, s as usize, after as usize),
+    )
 }
 
 // Where the bytes of block r stand in the image.
@@ -33,11 +31,10 @@ pub extern "C" fn perq_next_file(image: &[u8], drive: u32, s: u32, after: u32) -
 pub extern "C" fn perq_show(image: &[u8], drive: u32, s: u32, f: u32, r: u32) -> PerqAnswer
     ensures { result ≡ flat 0 (shown drive image.now s f r) }
 {
-    let d = crate::wide(drive);
-    let p = crate::wide(s);
-    let g = crate::wide(f);
-    let n = crate::wide(r);
-    crate::flat(0, shows::show_answer(image, d, p, g, n))
+    crate::flat(
+        0,
+        shows::show_answer(image, drive as usize, s as usize, f as usize, r as usize),
+    )
 }
 
 // Where the bytes of block r stand in the repaired image, or where that refuses in the original.
@@ -52,13 +49,15 @@ pub extern "C" fn perq_show_pair(
 ) -> PerqAnswer
     ensures { result ≡ flat_from (shown_pair drive original.now repaired.now s f r).image (shown_pair drive original.now repaired.now s f r).outcome }
 {
-    let d = crate::wide(drive);
-    let p = crate::wide(s);
-    let g = crate::wide(f);
-    let n = crate::wide(r);
-    let x = shows::show_pair_answer(original, repaired, d, p, g, n);
-    let o = x.outcome;
-    crate::flat_from(x.image, o)
+    let x = shows::show_pair_answer(
+        original,
+        repaired,
+        drive as usize,
+        s as usize,
+        f as usize,
+        r as usize,
+    );
+    crate::flat_from(x.image, x.outcome)
 }
 
 // Block r of file f, copied into the buffer of 512 bytes.
@@ -73,11 +72,17 @@ pub extern "C" fn perq_read(
 ) -> PerqAnswer
     ensures { (result ≡ flat 0 (plain (read_from drive image.now s f r (length buffer.old)))) × (buffer.new ≡ read_into image.now buffer.old (read_from drive image.now s f r (length buffer.old))) }
 {
-    let d = crate::wide(drive);
-    let p = crate::wide(s);
-    let g = crate::wide(f);
-    let n = crate::wide(r);
-    crate::flat(0, reading::read(image, d, p, g, n, buffer))
+    crate::flat(
+        0,
+        reading::read(
+            image,
+            drive as usize,
+            s as usize,
+            f as usize,
+            r as usize,
+            buffer,
+        ),
+    )
 }
 
 // The description of file f, copied into the buffer of 104 bytes.
@@ -91,10 +96,10 @@ pub extern "C" fn perq_description(
 ) -> PerqAnswer
     ensures { (result ≡ flat 0 (described_as drive image.now s f (length buffer.old))) × (buffer.new ≡ described_into image.now f buffer.old (described_as drive image.now s f (length buffer.old))) }
 {
-    let d = crate::wide(drive);
-    let p = crate::wide(s);
-    let g = crate::wide(f);
-    crate::flat(0, reading::description(image, d, p, g, buffer))
+    crate::flat(
+        0,
+        reading::description(image, drive as usize, s as usize, f as usize, buffer),
+    )
 }
 
 // The whole of file f, block by block, into a buffer of 512 bytes for each.
@@ -108,10 +113,10 @@ pub extern "C" fn perq_extract(
 ) -> PerqAnswer
     ensures { (result ≡ flat 0 (extracted drive image.now s f (length buffer.old))) × (buffer.new ≡ extracted_into drive image.now s f buffer.old) }
 {
-    let d = crate::wide(drive);
-    let p = crate::wide(s);
-    let g = crate::wide(f);
-    crate::flat(0, extract::extract(image, d, p, g, buffer))
+    crate::flat(
+        0,
+        extract::extract(image, drive as usize, s as usize, f as usize, buffer),
+    )
 }
 
 // What describe says of the name in a description: the rule that it breaks, and where.

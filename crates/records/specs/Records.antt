@@ -1,8 +1,8 @@
 -- What the builders of records ask and give: blocks that lie in the image, saves that stand for stores, and the plans over plain numbers.
-use Rattle.std.specs.Prelude.{◌≡◌, List, [], ◌∷◌, ℕ, ◌+◌, ◌*◌, ◌<◌, ◌≤◌, length}
+use Rattle.std.specs.Prelude.{◌≡◌, List, [], ◌∷◌, Option, IfSome, ℕ, ◌+◌, ◌*◌, ◌<◌, ◌≤◌, length}
 use Rattle.image.specs.View.{View, Rec, Store, pair}
 use Rattle.image.specs.Image.{view}
-use Rattle.image.specs.Saves.{saves, with_data, with_text, Fit}
+use Rattle.image.specs.Saves.{stores_of, with_data, with_text, Fit}
 use Rattle.image.specs.declared.Save.{Save}
 use Rattle.volume.specs.Words.{number_free_at}
 use Rattle.volume.specs.Plans.{Plan, st, new_first, pib_less, fresh_fib}
@@ -12,10 +12,10 @@ pub record Block (l : List ℕ) (b : ℕ) : Type 0 where
   pub within : 528 * b + 528 ≤ length l
   pub few : b < 69552
 
--- a save in the image l that makes just the stores ss
-pub record StandsFor (l : List ℕ) (ss : List Store) (x : Save) : Type 0 where
-  pub list : saves x ≡ ss
-  pub fits : Fit l x
+-- a save that may be absent, in the image l, that makes just the stores ss
+pub record StandsFor (l : List ℕ) (ss : List Store) (x : Option Save) : Type 0 where
+  pub list : stores_of x ≡ ss
+  pub fits : IfSome x (Fit l)
 
 -- the stores of describe, of replace in block b, and of create in block h with g the first free block afterwards
 unfoldable pub described : View → ℕ → Rec → Plan

@@ -1,5 +1,5 @@
 -- What repair answers, from what the code did: refusals 1, 2, 4 and 9, or the stores under the limit.
-use Rattle.std.specs.Prelude.{◌≡◌, refl, List, [], ◌∷◌, Bool, false, ℕ, suc, ◌+◌, ◌-◌, ◌≤◌, ◌<◌, eqb, length}
+use Rattle.std.specs.Prelude.{◌≡◌, refl, List, [], ◌∷◌, Bool, false, ℕ, suc, ◌+◌, ◌-◌, ◌≤◌, ◌<◌, eqb, length, Some, None, Ok, Err}
 use Rattle.std.proofs.Common.{sym, ap, ap₂, ◌∙◌, arith, eq-eqb, ne_eqb}
 use Rattle.std.proofs.Math.Seq.{take-nil}
 use Rattle.base.specs.Tests.{pick, those, head_of}
@@ -16,9 +16,6 @@ use Rattle.volume.specs.Answers.{partition, lowest_malformed}
 use Rattle.volume.specs.Plans.{Plan, stores, repair_plan}
 use Rattle.volume.specs.Calls.{Planned, refuse, finish, repair_in, planned, Call, Answered}
 use Rattle.volume.specs.declared.Answer.{Answer}
-use Rattle.volume.specs.declared.Found.TheVariants.{At, Nothing}
-use Rattle.volume.specs.declared.Part.TheVariants as part
-use Rattle.volume.specs.declared.Outcome.TheVariants.{Done, Refused}
 use Rattle.frame.specs.Chain.{head_zero}
 use Rattle.blocks.specs.Standing.{head_under}
 use Rattle.repair.specs.Mending.{is_free}
@@ -51,24 +48,24 @@ some_free π v first q h = ap (λ (t : Bool). pick t (refuse NothingFree) (finis
 
 -- ---- answers
 
-pub answered_not : {limit : ℕ} {p : Planned} {l : List ℕ} {a : Answer} (y : Refusal) → p ≡ refuse y → a ≡ record { made = 0; outcome = Refused y } → Answered limit p l l a
+pub answered_not : {limit : ℕ} {p : Planned} {l : List ℕ} {a : Answer} (y : Refusal) → p ≡ refuse y → a ≡ record { made = 0; outcome = Err y } → Answered limit p l l a
 unfolding stored
 answered_not y h e = rw (h, e) (record { outcome = refl; made = rw take-nil; image = rw take-nil })
 
 pub answered_done : {limit left n : ℕ} {p : Planned} {l l' : List ℕ} (plan : Plan) → p ≡ finish 0 plan → n ≡ limit - left → Applied limit (stores plan) l l' left
-    → Answered limit p l l' (record { made = n; outcome = Done 0 0 0 })
+    → Answered limit p l l' (record { made = n; outcome = Ok (Some (0, 0, 0)) })
 answered_done plan h e a = rw h (let m = made e a in record { outcome = refl; made = m.count; image = m.image })
 
 module _ (d : ℕ) (l : List ℕ) (s : ℕ) where
-  pub refused_part : (y : Refusal) → partition d l s ≡ part.Refused y → planned d l s Call.repair ≡ refuse y
+  pub refused_part : (y : Refusal) → partition d l s ≡ Err y → planned d l s Call.repair ≡ refuse y
   unfolding planned
   refused_part y h = rw (h, planned)
 
-  module _ (e : ℕ) (h : partition d l s ≡ part.Good e) where
-    pub refused_malformed : (f : ℕ) → lowest_malformed (partition_of d s e) (view l) ≡ At f → planned d l s Call.repair ≡ refuse (Malformed f)
+  module _ (e : ℕ) (h : partition d l s ≡ Ok e) where
+    pub refused_malformed : (f : ℕ) → lowest_malformed (partition_of d s e) (view l) ≡ Some f → planned d l s Call.repair ≡ refuse (Malformed f)
     unfolding planned
     refused_malformed f q = rw (h, q, planned)
 
-    pub planned_in : lowest_malformed (partition_of d s e) (view l) ≡ Nothing → planned d l s Call.repair ≡ repair_in (partition_of d s e) (view l)
+    pub planned_in : lowest_malformed (partition_of d s e) (view l) ≡ None → planned d l s Call.repair ≡ repair_in (partition_of d s e) (view l)
     unfolding planned
     planned_in q = rw (h, q, planned)

@@ -7,15 +7,16 @@ ghost use Rattle.base.specs.Tests.{those, head_of};
 ghost use Rattle.image.specs.Image.{view};
 ghost use Rattle.volume.specs.Files.{unowned};
 ghost use Rattle.volume.specs.Calls.{repair_in, planned, Call, Answered};
-ghost use Rattle.volume.specs.declared.Outcome.TheVariants.{Refused};
 ghost use Rattle.blocks.specs.Ready.{Ready};
 ghost use Rattle.repair.specs.Mending.{is_free, Turn, Turned, Mending};
 
 use base::Refusal;
-use volume::{Answer, Found, Outcome, Part, Partition};
+use inspect::Volume;
+use links::Clean;
+use volume::{Answer, Partition};
 
 // How far repair has come: the stores that the limit leaves, the last unowned block passed and the first one ahead, each 0 if there is
-// none, and how many unowned blocks were passed.
+// none, since that is what the chain's ends store for their neighbours, and how many unowned blocks were passed.
 #[derive(Clone, Copy)]
 struct Progress {
     pub left: usize,
@@ -25,17 +26,12 @@ struct Progress {
 }
 
 // The first unowned block from `from` on, or 0.
-fn unowned_from(img: &[u8], p: Partition, from: usize) -> usize
-    requires { Ready p img.now }
-    ensures { result ≡ head_of 0 (those from (suc p.e - from) (is_free p (view img.now))) }
+fn unowned_from(clean: &Clean<'_>, from: usize) -> usize
+    ensures { result ≡ head_of 0 (those from (suc clean.now.volume.p.e - from) (is_free clean.now.volume.p (view clean.now.volume.img.now))) }
 {
-    let end = p.e + 1;
-    for b in from..end {
-        if !links::owned(img, p, b) {
-            return b;
-        }
-    }
-    0
+    (from..clean.volume.p.e + 1)
+        .find(|&b| !links::owned(clean, b))
+        .unwrap_or(0)
 }
 
 // Repairs block b: an unowned one gets its neighbours in the chain from `first` on, an owned one its file's links.
@@ -43,23 +39,28 @@ fn turn(img: &mut [u8], p: Partition, first: usize, b: usize, t: Progress) -> Pr
     requires { Turn p img.old first b t }
     ensures { Turned p img.old img.new b t result }
 {
-    let left = t.left;
-    let last = t.last;
-    let next = t.next;
-    let count = t.count;
+    let Progress {
+        left,
+        last,
+        next,
+        count,
+    } = t;
+    let clean = Clean {
+        volume: Volume { img, p },
+    };
     if b == next {
-        let above = unowned_from(img, p, b + 1);
+        let above = unowned_from(&clean, b + 1);
         let x = blocks::freed(img, p.drive, b, first, above, last);
         return Progress {
-            left: image::step(img, left, image::saved(b, x)),
+            left: image::step(img, left, Some(image::saved(b, x))),
             last: b,
             next: above,
             count: count + 1,
         };
     }
-    let x = blocks::relinked(img, p, b);
+    let x = blocks::relinked(&clean, b);
     Progress {
-        left: image::step(img, left, image::saved(b, x)),
+        left: image::step(img, left, Some(image::saved(b, x))),
         last,
         next,
         count,
@@ -84,32 +85,25 @@ fn mend(img: &mut [u8], p: Partition, first: usize, limit: usize) -> Progress
     t
 }
 
-// A refusal, under which nothing is stored.
-fn refused(why: Refusal) -> Answer
-    ensures { result ≡ record { made = 0; outcome = Refused why } }
-{
-    Answer {
-        made: 0,
-        outcome: Outcome::Refused(why),
-    }
-}
-
 // Repair of a partition with no malformed candidate: refused where no block is unowned.
 fn repair_in(img: &mut [u8], p: Partition, limit: usize) -> Answer
     requires { Ready p img.old }
     ensures { Answered limit (repair_in p (view img.old)) img.old img.new result }
 {
-    let first = unowned_from(img, p, p.s + 1);
+    let clean = Clean {
+        volume: Volume { img, p },
+    };
+    let first = unowned_from(&clean, p.s + 1);
     if first < 1 {
-        return refused(Refusal::NothingFree);
+        return Answer::refused(Refusal::NothingFree);
     }
     let t = mend(img, p, first, limit);
     let left = t.left;
     let x = blocks::pib(img, p.drive, p.s, first, t.last, t.count);
-    let left = image::step(img, left, image::saved(p.s, x));
+    let left = image::step(img, left, Some(image::saved(p.s, x)));
     Answer {
-        made: image::used(limit, left),
-        outcome: Outcome::Done(0, 0, 0),
+        made: limit.saturating_sub(left),
+        outcome: Ok(Some((0, 0, 0))),
     }
 }
 
@@ -117,15 +111,14 @@ fn repair_in(img: &mut [u8], p: Partition, limit: usize) -> Answer
 pub fn repair(img: &mut [u8], drive: usize, s: usize, limit: usize) -> Answer
     ensures { Answered limit (planned drive img.old s Call.repair) img.old img.new result }
 {
-    let q = inspect::partition(img, drive, s);
-    match q {
-        Part::Refused(why) => refused(why),
-        Part::Good(e) => {
-            let x = inspect::lowest_malformed(img, Partition { drive, s, e });
-            match x {
-                Found::At(f) => refused(Refusal::Malformed(f)),
-                Found::Nothing => repair_in(img, Partition { drive, s, e }, limit),
-            }
-        }
+    let e = match inspect::partition(img, drive, s) {
+        Ok(e) => e,
+        Err(why) => return Answer::refused(why),
+    };
+    let p = Partition { drive, s, e };
+    let volume = Volume { img, p };
+    match volume.lowest_malformed() {
+        Some(f) => Answer::refused(Refusal::Malformed(f)),
+        None => repair_in(img, p, limit),
     }
 }

@@ -1,14 +1,16 @@
--- How a row comes about in the buffer, and the name of an entry as the code reads it. Assumes nothing.
+-- How a row comes about in the buffer, the name of an entry as the code reads it, and the root. Assumes nothing.
 use mathlib.Core.Path.{◌≡◌, refl, ap, ◌∙◌}
 use mathlib.Core.List.{List, [], ◌∷◌, ◌++◌, append_assoc}
 use Prim.Native.Nat.{ℕ, zero, suc, ◌+◌, ◌-◌, ◌*◌, ◌/◌, ◌%◌, ◌≤◌}
 use native.Mathlib.Nat.{le_trans, min-le_left}
 use native.Mathlib.Omega.{arith}
+use borrow.Author.Rules.{rules}
 use lib.ListN.{length, get_or, take, drop, replicate, length-append, length-take}
 use Rattle.directory.specs.Directory.{entry_at, name_length, name_at, row_of}
 use Rattle.image.specs.Stores.{lay}
 use Rattle.image.proofs.Laws.{span}
-use Rattle.tree.specs.Items.{lay_lay}
+use Rattle.directory.specs.Entries.{file_at_is}
+use Rattle.tree.specs.Items.{lay_none, lay_lay}
 
 -- the name of an entry as the code reads it
 module _ (l : List ℕ) (b b' i w : ℕ) (q : w ≡ get_or l (528 * b + 16 + 32 * i + 6) 0) (h : b ≡ b') where
@@ -20,6 +22,9 @@ module _ (l : List ℕ) (b b' i w : ℕ) (q : w ≡ get_or l (528 * b + 16 + 32 
 
 pub part_short : (l : List ℕ) (a w : ℕ) → w ≤ 25 → length (take (a + w - a) (drop a l)) ≤ 25
 part_short l a w h = rw (span, length-take) (le_trans (min-le_left w (length (drop a l))) h)
+
+-- the root is a file, and a refused call leaves the rows
+pub ruleset rooted = (file_at_is, lay_none, rules)
 
 -- ---- a row, laid in three parts
 

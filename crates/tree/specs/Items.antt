@@ -1,22 +1,20 @@
 -- The items of a tree: how long its rows are, how far a walk of them counts, one list of items after another; bytes laid over a buffer.
-use Rattle.std.specs.Prelude.{◌≡◌, refl, Bool, true, false, List, [], ◌∷◌, ◌++◌, ltb, eqb, length, take, drop}
-use Rattle.std.proofs.Common.{sym, ap, ◌∙◌, subst, append_assoc, le_trans, arith, length-append, length-take, take-append-drop, take_at, length-take-le, drop-drop, lt-ltb, le-ltb, eqb-true, ltb-true, ltb-false}
+use Rattle.std.specs.Prelude.{◌≡◌, refl, Bool, true, false, List, [], ◌∷◌, ◌++◌, ltb, length, take, drop, Option, Some, None, Ok, Err}
+use Rattle.std.proofs.Common.{sym, ap, ◌∙◌, subst, append_assoc, le_trans, arith, length-append, length-take, take-append-drop, take_at, length-take-le, drop-drop, lt-ltb, le-ltb, ltb-true, ltb-false}
 use Prim.Native.Nat.{ℕ, zero, suc, ◌+◌, ◌-◌, ◌*◌, ◌≤◌, ◌<◌}
 use Rattle.std.proofs.Math.Nat.{min-le_left}
 use Rattle.std.proofs.lemmas.List.{length-replicate}
 use Rattle.std.proofs.Math.Seq.{drop-append-add}
-use Rattle.base.specs.Tests.{pick}
 use Rattle.image.specs.Image.{view}
 use Rattle.volume.specs.Files.{is_file, len}
 use Rattle.volume.specs.declared.Partition.{Partition}
-use Rattle.directory.specs.Directory.{Selection, name_length, name_at, place_of, met_at, Item, row, tenth, row_of, items_of, entries, tree, walked, fitting}
+use Rattle.directory.specs.Directory.{Selection, name_length, name_at, place_of, met_at, Item, row, tenth, row_of, inside_of, items_of, entries, tree, Walk, walked, fitting}
 use Rattle.image.specs.Stores.{lay}
 use Rattle.directory.specs.Entries.{met_short, met_is_file}
 use Rattle.directory.specs.Paths.{file_in}
-use Rattle.directory.specs.declared.Met.{Met}
-use Rattle.directory.specs.declared.Met.TheVariants.{Skip, Taken}
-use Rattle.directory.specs.declared.Walk.{Walk}
-use Rattle.directory.specs.declared.Walk.TheVariants.{Going, Stopped, Deep}
+use Rattle.directory.specs.declared.Target.{Target}
+use Rattle.directory.specs.declared.Target.TheVariants.{File, Directory, Dangling}
+use Rattle.directory.specs.declared.Stop.TheVariants.{Full, Deep}
 
 -- ---- laying bytes over a buffer
 
@@ -66,13 +64,14 @@ module _ (π : Partition) (l : List ℕ) (sel : Selection) where
   items_sized : (below : ℕ → List Item) (level f j : ℕ) → ((t : ℕ) → is_file π (view l) t ≡ true → Sized π.e (below t)) → Sized π.e (items_of l below level (place_of π l f j) (met_at π l sel f j))
   items_sized below level f j h = go (met_at π l sel f j) refl
     where
-      go : (m : Met) → met_at π l sel f j ≡ m → Sized π.e (items_of l below level (place_of π l f j) m)
-      go Skip q = tt
-      go (Taken what t) q = (row_long t level what _ (name_short l _ (met_short π l sel f j what t q)), down (eqb what 1) refl)
+      go : (m : Option Target) → met_at π l sel f j ≡ m → Sized π.e (items_of l below level (place_of π l f j) m)
+      go None q = tt
+      go (Some x) q = (row_long _ level _ _ (name_short l _ (met_short π l sel f j q)), down x q)
         where
-          down : (u : Bool) → eqb what 1 ≡ u → Sized π.e (pick u (below t) [])
-          down true z = h t (met_is_file π l sel f j what t q (eqb-true what 1 z))
-          down false z = tt
+          down : (x : Target) → met_at π l sel f j ≡ Some x → Sized π.e (inside_of below x)
+          down (File t) q = tt
+          down (Directory t) q = h t (met_is_file π l sel f j q refl)
+          down Dangling q = tt
 
   entries_sized : (below : ℕ → List Item) (level f j c : ℕ) → ((t : ℕ) → is_file π (view l) t ≡ true → Sized π.e (below t)) → Sized π.e (entries π l sel below level f j c)
   unfolding entries
@@ -104,7 +103,7 @@ pub walked_row : (m n : ℕ) (r : List ℕ) (is : List Item) → n < m → walke
 unfolding walked
 walked_row m n r is h = rw (walked, lt-ltb n m h)
 
-pub walked_full : (m n : ℕ) (r : List ℕ) (is : List Item) → m ≤ n → walked m (row r ∷ is) n ≡ Stopped n
+pub walked_full : (m n : ℕ) (r : List ℕ) (is : List Item) → m ≤ n → walked m (row r ∷ is) n ≡ Err (Full n)
 unfolding walked
 walked_full m n r is h = rw (walked, le-ltb n m h)
 
@@ -114,14 +113,14 @@ fitting_full m n is h = let z : m - n ≡ zero = omega arith in rw (z, fitting)
 
 -- a walk that filled rows up to i has laid as many bytes
 abbrev pub Counts : ℕ → ℕ → List Item → Walk → Type 0
-Counts m n is (Going i) = 32 * n + length (fitting (m - n) is) ≡ 32 * i
-Counts m n is (Stopped i) = 32 * n + length (fitting (m - n) is) ≡ 32 * i
-Counts m n is (Deep f) = Unit {0}
+Counts m n is (Ok i) = 32 * n + length (fitting (m - n) is) ≡ 32 * i
+Counts m n is (Err (Full i)) = 32 * n + length (fitting (m - n) is) ≡ 32 * i
+Counts m n is (Err (Deep f)) = Unit {0}
 
 counts_row : (m n : ℕ) (r : List ℕ) (is : List Item) (w : Walk) → n < m → length r ≡ 32 → Counts m (n + 1) is w → Counts m n (row r ∷ is) w
-counts_row m n r is (Going i) h q s = rw (fitting_row m n r is h, length-append) (omega arith)
-counts_row m n r is (Stopped i) h q s = rw (fitting_row m n r is h, length-append) (omega arith)
-counts_row m n r is (Deep f) h q s = tt
+counts_row m n r is (Ok i) h q s = rw (fitting_row m n r is h, length-append) (omega arith)
+counts_row m n r is (Err (Full i)) h q s = rw (fitting_row m n r is h, length-append) (omega arith)
+counts_row m n r is (Err (Deep f)) h q s = tt
 
 pub counts : (m e : ℕ) (is : List Item) (n : ℕ) → Sized e is → Counts m n is (walked m is n)
 unfolding walked
@@ -135,9 +134,8 @@ counts m e (row r ∷ is) n s = go (ltb n m) refl (counts m e is (n + 1) s.1)
 
 -- a walk of xs and then ys: xs went on to i and ys follow, or it ended in xs
 abbrev pub Then : ℕ → List Item → List Item → ℕ → Walk → Type 0
-Then m xs ys n (Going i) = (walked m (xs ++ ys) n ≡ walked m ys i) × (fitting (m - n) (xs ++ ys) ≡ fitting (m - n) xs ++ fitting (m - i) ys)
-Then m xs ys n (Stopped i) = (walked m (xs ++ ys) n ≡ Stopped i) × (fitting (m - n) (xs ++ ys) ≡ fitting (m - n) xs)
-Then m xs ys n (Deep f) = (walked m (xs ++ ys) n ≡ Deep f) × (fitting (m - n) (xs ++ ys) ≡ fitting (m - n) xs)
+Then m xs ys n (Ok i) = (walked m (xs ++ ys) n ≡ walked m ys i) × (fitting (m - n) (xs ++ ys) ≡ fitting (m - n) xs ++ fitting (m - i) ys)
+Then m xs ys n (Err y) = (walked m (xs ++ ys) n ≡ Err y) × (fitting (m - n) (xs ++ ys) ≡ fitting (m - n) xs)
 
 module _ (m : ℕ) (r : List ℕ) (xs ys : List Item) (n : ℕ) (h : n < m) where
   one : {w : Walk} → walked m (xs ++ ys) (n + 1) ≡ w → walked m (row r ∷ (xs ++ ys)) n ≡ w
@@ -147,10 +145,9 @@ module _ (m : ℕ) (r : List ℕ) (xs ys : List Item) (n : ℕ) (h : n < m) wher
   rows q = fitting_row m n r (xs ++ ys) h ∙ ap (λ (x : List ℕ). r ++ x) q ∙ sym (fitting_row m n r xs h)
 
   then_row : (w : Walk) → Then m xs ys (n + 1) w → Then m (row r ∷ xs) ys n w
-  then_row (Going i) s =
+  then_row (Ok i) s =
       (one s.0, fitting_row m n r (xs ++ ys) h ∙ ap (λ (x : List ℕ). r ++ x) s.1 ∙ sym (append_assoc r _ _) ∙ ap (λ (x : List ℕ). x ++ fitting (m - i) ys) (sym (fitting_row m n r xs h)))
-  then_row (Stopped i) s = (one s.0, rows s.1)
-  then_row (Deep f) s = (one s.0, rows s.1)
+  then_row (Err y) s = (one s.0, rows s.1)
 
 pub walked_then : (m : ℕ) (xs ys : List Item) (n : ℕ) → Then m xs ys n (walked m xs n)
 unfolding walked
@@ -166,9 +163,9 @@ walked_then m (row r ∷ xs) ys n = go (ltb n m) refl (walked_then m xs ys (n + 
 
 -- a walk counts no further than there are rows, and what it names lies in the partition
 abbrev pub WalkFits : ℕ → ℕ → Walk → Type 0
-WalkFits m e (Going n) = n ≤ m
-WalkFits m e (Stopped n) = n ≤ m
-WalkFits m e (Deep f) = f ≤ e
+WalkFits m e (Ok n) = n ≤ m
+WalkFits m e (Err (Full n)) = n ≤ m
+WalkFits m e (Err (Deep f)) = f ≤ e
 
 pub walked_fits : (m e : ℕ) (is : List Item) (n : ℕ) → n ≤ m → Sized e is → WalkFits m e (walked m is n)
 unfolding walked
@@ -176,6 +173,6 @@ walked_fits m e [] n h s = h
 walked_fits m e (tenth f ∷ is) n h s = s.0
 walked_fits m e (row r ∷ is) n h s = go (ltb n m) refl (λ k. walked_fits m e is (n + 1) k s.1)
   where
-    go : (u : Bool) → ltb n m ≡ u → (n + 1 ≤ m → WalkFits m e (walked m is (n + 1))) → WalkFits m e (elim u [ true ↦ walked m is (n + 1) | false ↦ Stopped n ])
+    go : (u : Bool) → ltb n m ≡ u → (n + 1 ≤ m → WalkFits m e (walked m is (n + 1))) → WalkFits m e (elim u [ true ↦ walked m is (n + 1) | false ↦ Err (Full n) ])
     go true q k = k (let z = ltb-true n m q in omega arith)
     go false q k = h

@@ -1,5 +1,6 @@
 -- What the tree's definition promises of the caller's rows: none is touched under a refusal, and an answer of n rows laid 32 n bytes.
-use Rattle.std.specs.Prelude.{◌≡◌, refl, Bool, true, false, List, [], ℕ, ◌+◌, ◌-◌, ◌*◌, ◌%◌, eqb, length}
+use Rattle.volume.specs.Outcome.{Outcome}
+use Rattle.std.specs.Prelude.{◌≡◌, refl, Bool, true, false, List, [], ℕ, ◌+◌, ◌-◌, ◌*◌, ◌%◌, eqb, length, Option, Some, None, Result, Ok, Err}
 use Rattle.std.proofs.Common.{subst, arith}
 use Rattle.base.specs.Tests.{pick, both}
 use Rattle.base.specs.declared.Refusal.{Refusal}
@@ -7,32 +8,25 @@ use Rattle.base.specs.declared.Refusal.TheVariants.{BadBuffer}
 use Rattle.volume.specs.Files.{partition_of}
 use Rattle.volume.specs.declared.Partition.{Partition}
 use Rattle.volume.specs.Answers.{partition, in_partition}
-use Rattle.volume.specs.declared.Found.{Found}
-use Rattle.volume.specs.declared.Found.TheVariants.{At, Nothing}
-use Rattle.volume.specs.declared.Part.{Part}
-use Rattle.volume.specs.declared.Part.TheVariants as part
-use Rattle.volume.specs.declared.Outcome.{Outcome}
-use Rattle.volume.specs.declared.Outcome.TheVariants.{Done, Absent, Refused}
-use Rattle.directory.specs.Directory.{selected, is_rule, root_of, Item, tree, walked, fitting, Treed, refused_tree, most_rows, walked_as, tree_root, tree_in, treed}
+use Rattle.directory.specs.Directory.{selected, is_rule, root_of, Item, tree, Walk, walked, fitting, Treed, refused_tree, most_rows, walked_as, tree_root, tree_in, treed}
 use Rattle.image.specs.Stores.{lay}
 use Rattle.directory.specs.Entries.{file_at_is}
-use Rattle.directory.specs.declared.Walk.{Walk}
-use Rattle.directory.specs.declared.Walk.TheVariants.{Going, Stopped, Deep}
+use Rattle.directory.specs.declared.Stop.TheVariants.{Full, Deep}
 use Rattle.tree.specs.Items.{lay_none, Counts, counts, tree_sized}
 
 -- what an answer says of the bytes laid
 abbrev Laid : Outcome → List ℕ → Type 0
-Laid (Done n x c) rows = length rows ≡ 32 * n
-Laid Absent rows = rows ≡ []
-Laid (Refused y) rows = rows ≡ []
+Laid (Ok (Some v)) rows = length rows ≡ 32 * v.0
+Laid (Ok None) rows = rows ≡ []
+Laid (Err y) rows = rows ≡ []
 
 abbrev TreeLaid : Treed → Type 0
 TreeLaid t = Laid t.outcome t.rows
 
-walk_laid : (w : Walk) (x : List ℕ) → ((n : ℕ) → w ≡ Going n → length x ≡ 32 * n) → ((n : ℕ) → w ≡ Stopped n → length x ≡ 32 * n) → TreeLaid (walked_as w x)
-walk_laid (Going n) x g s = g n refl
-walk_laid (Stopped n) x g s = s n refl
-walk_laid (Deep f) x g s = refl
+walk_laid : (w : Walk) (x : List ℕ) → ((n : ℕ) → w ≡ Ok n → length x ≡ 32 * n) → ((n : ℕ) → w ≡ Err (Full n) → length x ≡ 32 * n) → TreeLaid (walked_as w x)
+walk_laid (Ok n) x g s = g n refl
+walk_laid (Err (Full n)) x g s = s n refl
+walk_laid (Err (Deep f)) x g s = refl
 
 from_start : (m i : ℕ) (is : List Item) → 32 * 0 + length (fitting (m - 0) is) ≡ 32 * i → length (fitting m is) ≡ 32 * i
 from_start m i is h = let z : m - 0 ≡ m = omega arith in let y = rw z at h in omega arith
@@ -40,9 +34,9 @@ from_start m i is h = let z : m - 0 ≡ m = omega arith in let y = rw z at h in 
 root_laid : (π : Partition) (l rule : List ℕ) (n : ℕ) → TreeLaid (tree_root π l rule n (root_of π l))
 root_laid π l rule n = go (root_of π l) refl
   where
-    go : (x : Found) → root_of π l ≡ x → TreeLaid (tree_root π l rule n x)
-    go Nothing q = refl
-    go (At root) q =
+    go : (x : Option ℕ) → root_of π l ≡ x → TreeLaid (tree_root π l rule n x)
+    go None q = refl
+    go (Some root) q =
         let is = tree π l (selected rule) 9 root in
         let m = most_rows n in
         let c : Counts m 0 is (walked m is 0) = counts m π.e is 0 (tree_sized π l (selected rule) 9 root (file_at_is π l _ root q)) in
@@ -56,15 +50,15 @@ treed_laid d l s rule n = go (partition d l s)
     ruled π true = root_laid π l rule n
     ruled π false = refl
 
-    go : (x : Part) → TreeLaid (in_partition refused_tree x (λ e. tree_in (partition_of d s e) l rule n))
-    go (part.Good e) = ruled (partition_of d s e) (both (is_rule rule) (eqb (n % 32) 0))
-    go (part.Refused y) = refl
+    go : (x : Result ℕ Refusal) → TreeLaid (in_partition refused_tree x (λ e. tree_in (partition_of d s e) l rule n))
+    go (Ok e) = ruled (partition_of d s e) (both (is_rule rule) (eqb (n % 32) 0))
+    go (Err y) = refl
 
 module _ (d : ℕ) (l : List ℕ) (s : ℕ) (rule b : List ℕ) where
-  pub refused_leaves : (y : Refusal) → (treed d l s rule (length b)).outcome ≡ Refused y → lay b 0 (treed d l s rule (length b)).rows ≡ b
+  pub refused_leaves : (y : Refusal) → (treed d l s rule (length b)).outcome ≡ Err y → lay b 0 (treed d l s rule (length b)).rows ≡ b
   refused_leaves y q =
       let z : (treed d l s rule (length b)).rows ≡ [] = subst (λ (o : Outcome). Laid o (treed d l s rule (length b)).rows) q (treed_laid d l s rule (length b)) in
       rw z (lay_none b 0)
 
-  pub done_lays : (n x c : ℕ) → (treed d l s rule (length b)).outcome ≡ Done n x c → length (treed d l s rule (length b)).rows ≡ 32 * n
+  pub done_lays : (n x c : ℕ) → (treed d l s rule (length b)).outcome ≡ Ok (Some (n, x, c)) → length (treed d l s rule (length b)).rows ≡ 32 * n
   done_lays n x c q = subst (λ (o : Outcome). Laid o (treed d l s rule (length b)).rows) q (treed_laid d l s rule (length b))

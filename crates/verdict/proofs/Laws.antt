@@ -1,13 +1,12 @@
--- What comes of a repair by what it answers, and of a partition by what is to be done about it. Assumes nothing.
-use mathlib.Core.Path.{◌≡◌, refl, sym, ap, ◌∙◌}
+-- What comes of a repair by what it answers. Assumes nothing.
+use Rattle.std.specs.Prelude.{Ok}
+use mathlib.Core.Path.{◌≡◌, refl, ap, ◌∙◌}
 use mathlib.Core.List.{List}
 use Prim.Native.Nat.{ℕ, zero, suc, ◌≤◌}
 use native.Mathlib.Omega.{arith}
 use lib.ListN.{length, take, length-append}
 use lib.Seq.{take_all}
 use Rattle.base.specs.Tests.{tab_from}
-use Rattle.base.specs.declared.Refusal.{Refusal}
-use Rattle.base.specs.declared.Refusal.TheVariants.{BadPartition}
 use Rattle.image.specs.View.{Store}
 use Rattle.image.specs.Image.{view}
 use Rattle.image.specs.Stores.{stored}
@@ -17,12 +16,9 @@ use Rattle.volume.proofs.Readings.{lies}
 use Rattle.volume.specs.Answers.{partition, checked}
 use Rattle.volume.specs.Calls.{Planned, planned, repair, Answered}
 use Rattle.volume.specs.declared.Answer.{Answer}
-use Rattle.volume.specs.declared.Part.TheVariants.{Good}
-use Rattle.volume.specs.declared.Outcome.TheVariants.{Done, Absent, Refused}
-use Rattle.verdict.specs.declared.Course.{Course}
-use Rattle.verdict.specs.declared.Verdict.TheVariants as came
+use Rattle.volume.specs.Outcome.{Outcome}
 use Rattle.verdict.specs.Left.{of_repair}
-use Rattle.verdict.specs.Choice.{Ending, choice, mended, repaired, followed, settled}
+use Rattle.verdict.specs.Choice.{choice, mended, where_done, repaired}
 
 -- ---- repair has a store for each block of the partition, so that a limit of 32,767 or more leaves none out
 
@@ -32,7 +28,7 @@ tab_length i zero f = refl
 tab_length i (suc k) f = ap suc (tab_length (suc i) k f)
 
 module _ (d : ℕ) (l : List ℕ) (s : ℕ) where
-  few_in : (e : ℕ) → partition d l s ≡ Good e → length (repair_stores (partition_of d s e) (view l)) ≤ 32767
+  few_in : (e : ℕ) → partition d l s ≡ Ok e → length (repair_stores (partition_of d s e) (view l)) ≤ 32767
   unfolding stores repair_plan
   few_in e h = simp (length-append, tab_length) (omega (arith, (lies d l s e h).small))
 
@@ -41,27 +37,10 @@ module _ (d : ℕ) (l : List ℕ) (s : ℕ) where
 
 -- ---- the answers
 
-module _ (n d : ℕ) (l : List ℕ) (s : ℕ) (l' : List ℕ) (a : Answer) (h : Answered n (planned d l s repair) l l' a) where
-  pub repaired_image : 32767 ≤ n → l' ≡ (repaired d l s).image
-  unfolding repaired
-  repaired_image m = h.image ∙ ap (λ (ss : List Store). stored ss l) (all_stores d l s n m)
-
-  pub repaired_refused : (y : Refusal) → a.outcome ≡ Refused y → came.Refused y ≡ (repaired d l s).verdict
-  unfolding repaired
-  repaired_refused y q = rw (repaired, sym h.outcome ∙ q)
-
-  pub repaired_absent : a.outcome ≡ Absent → came.Refused BadPartition ≡ (repaired d l s).verdict
-  unfolding repaired
-  repaired_absent q = rw (repaired, sym h.outcome ∙ q)
-
-  pub repaired_done : 32767 ≤ n → (x y z : ℕ) → a.outcome ≡ Done x y z → mended a.made (choice (checked d l' s)) ≡ (repaired d l s).verdict
-  unfolding repaired
-  repaired_done m x y z q = rw (repaired, sym h.outcome ∙ q, h.made, h.image, all_stores d l s n m)
-
-module _ (d : ℕ) (l : List ℕ) (s : ℕ) (x : Course) (q : x ≡ choice (checked d l s)) where
-  followed_is : followed l x (repaired d l s) ≡ settled d l s
-  unfolding settled
-  followed_is = ap (λ (y : Course). followed l y (repaired d l s)) q
-
-  pub settled_is : ((followed l x (repaired d l s)).verdict ≡ (settled d l s).verdict) × ((followed l x (repaired d l s)).image ≡ (settled d l s).image)
-  settled_is = (ap (λ (y : Ending). y.verdict) followed_is, ap (λ (y : Ending). y.image) followed_is)
+-- what comes of a repair that answered so and left l', where the limit lets it make all its stores
+pub repaired_is : (d s : ℕ) {n : ℕ} {l l' : List ℕ} {a : Answer} → Answered n (planned d l s repair) l l' a → 32767 ≤ n → (o : Outcome) → a.outcome ≡ o
+    → (where_done o (mended a.made (choice (checked d l' s))) ≡ (repaired d l s).verdict) × (l' ≡ (repaired d l s).image)
+unfolding repaired
+repaired_is d s {n} {l} h m o q =
+    let e = all_stores d l s n m in
+    (rw (← q, h.outcome, h.made, h.image, e), h.image ∙ ap (λ (ss : List Store). stored ss l) e)

@@ -1,42 +1,41 @@
 -- What comes of a partition, the verdict on it and the image that is left: by what check answers it is left alone, repaired, set aside or
 -- refused. Only a repair changes the image.
-use Rattle.std.specs.Prelude.{List, ℕ, eqb, length}
-use Rattle.base.specs.Tests.{pick}
-use Rattle.base.specs.Refusals.{number, culprit}
+use Rattle.volume.specs.Outcome.{Outcome}
+use Rattle.std.specs.Prelude.{List, ℕ, length, Some, None, Ok, Err}
 use Rattle.base.specs.declared.Refusal.{Refusal}
-use Rattle.base.specs.declared.Refusal.TheVariants.{BadPartition, Unsound}
+use Rattle.base.specs.declared.Refusal.TheVariants.{BadPartition, Malformed, Unsound}
 use Rattle.image.specs.Stores.{stored}
 use Rattle.volume.specs.Answers.{checked}
 use Rattle.volume.specs.Calls.{planned, repair}
-use Rattle.volume.specs.declared.Outcome.{Outcome}
-use Rattle.volume.specs.declared.Outcome.TheVariants.{Done, Absent, Refused}
 use Rattle.verdict.specs.declared.Course.{Course}
 use Rattle.verdict.specs.declared.Course.TheVariants as course
 use Rattle.verdict.specs.declared.Verdict.{Verdict}
 use Rattle.verdict.specs.declared.Verdict.TheVariants as came
 
--- 4 is for a person, 5 for repair, any other number refuses the image
+-- a malformed candidate is for a person, an unsound partition for repair, any other refusal stands
 abbrev pub refusal : Refusal → Course
-refusal y = pick (eqb (number y) 4) (course.SetAside (culprit y)) (pick (eqb (number y) 5) course.Repair (course.Refuse y))
+refusal (Malformed f) = course.SetAside f
+refusal Unsound = course.Repair
+refusal y = course.Refuse y
 
 -- what is to be done where check answers so; it never answers absent
 abbrev pub choice : Outcome → Course
-choice (Done files owned free) = course.Leave files owned free
-choice Absent = course.Refuse BadPartition
-choice (Refused y) = refusal y
+choice (Ok (Some x)) = course.Leave (record { files = x.0; owned = x.1; free = x.2 })
+choice (Ok None) = course.Refuse BadPartition
+choice (Err y) = refusal y
 
 -- after a repair of so many stores only a sound partition is repaired
 abbrev pub mended : ℕ → Course → Verdict
-mended made (course.Leave files owned free) = came.Repaired made files owned free
+mended made (course.Leave x) = came.Repaired made x
 mended made course.Repair = came.Refused Unsound
 mended made (course.SetAside f) = came.SetAside f
 mended made (course.Refuse y) = came.Refused y
 
 -- what comes of a repair that answers so, and then of k
 abbrev pub where_done : Outcome → Verdict → Verdict
-where_done (Done a b c) k = k
-where_done Absent k = came.Refused BadPartition
-where_done (Refused y) k = came.Refused y
+where_done (Ok (Some x)) k = k
+where_done (Ok None) k = came.Refused BadPartition
+where_done (Err y) k = came.Refused y
 
 -- a verdict on a partition, and the image as it is left
 pub record Ending : Type 0 where
@@ -52,7 +51,7 @@ repaired d l s =
 
 -- repair comes to k; any other course leaves the image l as it was
 abbrev pub followed : List ℕ → Course → Ending → Ending
-followed l (course.Leave files owned free) k = record { verdict = came.Sound files owned free; image = l }
+followed l (course.Leave x) k = record { verdict = came.Sound x; image = l }
 followed l course.Repair k = k
 followed l (course.SetAside f) k = record { verdict = came.SetAside f; image = l }
 followed l (course.Refuse y) k = record { verdict = came.Refused y; image = l }

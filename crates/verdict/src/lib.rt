@@ -11,38 +11,42 @@ use volume::Outcome;
 // More stores than a repair has: a partition has at most 32,767 blocks.
 const ALL: usize = 32768;
 
-// What is to be done about a partition: leave it, with its files, owned blocks and free blocks; repair it; set it aside with the block
-// that a person must look at; or refuse it.
+// What check counts in a sound partition: its files, owned blocks and free blocks.
+#[derive(Clone, Copy)]
+pub struct Tally {
+    pub files: usize,
+    pub owned: usize,
+    pub free: usize,
+}
+
+// What is to be done about a partition: leave it, which is sound; repair it; set it aside with the block that a person must look at; or
+// refuse it.
 #[derive(Clone, Copy)]
 pub enum Course {
-    Leave(usize, usize, usize),
+    Leave(Tally),
     Repair,
     SetAside(usize),
     Refuse(Refusal),
 }
 
-// The verdict on a partition: sound, or repaired by so many stores, with files, owned blocks and free blocks; set aside with a block; or
-// refused by a number of the library.
+// The verdict on a partition: sound; sound once repaired by so many stores; set aside with a block; or refused.
 #[derive(Clone, Copy)]
 pub enum Verdict {
-    Sound(usize, usize, usize),
-    Repaired(usize, usize, usize, usize),
+    Sound(Tally),
+    Repaired(usize, Tally),
     SetAside(usize),
     Refused(Refusal),
 }
 
-// What is to be done about a partition that check refuses: 4 is for a person, 5 for repair.
+// What is to be done about a partition that check refuses: a malformed candidate is for a person, an unsound partition for repair.
 fn refusal(why: Refusal) -> Course
     ensures { result ≡ refusal why }
 {
-    let n = base::number(why);
-    if n == 4 {
-        return Course::SetAside(base::culprit(why));
+    match why {
+        Refusal::Malformed(f) => Course::SetAside(f),
+        Refusal::Unsound => Course::Repair,
+        _ => Course::Refuse(why),
     }
-    if n == 5 {
-        return Course::Repair;
-    }
-    Course::Refuse(why)
 }
 
 // What is to be done where check answers so. It never answers absent.
@@ -50,9 +54,9 @@ fn choice(found: Outcome) -> Course
     ensures { result ≡ choice found }
 {
     match found {
-        Outcome::Done(files, owned, free) => Course::Leave(files, owned, free),
-        Outcome::Absent => Course::Refuse(Refusal::BadPartition),
-        Outcome::Refused(why) => refusal(why),
+        Ok(Some((files, owned, free))) => Course::Leave(Tally { files, owned, free }),
+        Ok(None) => Course::Refuse(Refusal::BadPartition),
+        Err(why) => refusal(why),
     }
 }
 
@@ -61,7 +65,7 @@ fn mended(made: usize, then: Course) -> Verdict
     ensures { result ≡ mended made then }
 {
     match then {
-        Course::Leave(files, owned, free) => Verdict::Repaired(made, files, owned, free),
+        Course::Leave(tally) => Verdict::Repaired(made, tally),
         Course::Repair => Verdict::Refused(Refusal::Unsound),
         Course::SetAside(f) => Verdict::SetAside(f),
         Course::Refuse(why) => Verdict::Refused(why),
@@ -73,24 +77,20 @@ fn repaired(img: &mut [u8], drive: usize, s: usize) -> Verdict
     ensures { (result ≡ (repaired drive img.old s).verdict) × (img.new ≡ (repaired drive img.old s).image) }
 {
     let answer = repair::repair(img, drive, s, ALL);
-    let outcome = answer.outcome;
-    match outcome {
-        Outcome::Refused(why) => Verdict::Refused(why),
-        Outcome::Absent => Verdict::Refused(Refusal::BadPartition),
-        Outcome::Done(_, _, _) => {
-            let found = verify::check(img, drive, s);
-            mended(answer.made, choice(found))
-        }
+    match answer.outcome {
+        Ok(Some(_)) => mended(answer.made, choice(verify::check(img, drive, s))),
+        Ok(None) => Verdict::Refused(Refusal::BadPartition),
+        Err(why) => Verdict::Refused(why),
     }
 }
 
 // The verdict on the partition at s.
+#[tactic(auto, unfolding(crate::specs::Choice::settled))]
 pub fn partition(img: &mut [u8], drive: usize, s: usize) -> Verdict
     ensures { (result ≡ (settled drive img.old s).verdict) × (img.new ≡ (settled drive img.old s).image) }
 {
-    let course = choice(verify::check(img, drive, s));
-    match course {
-        Course::Leave(files, owned, free) => Verdict::Sound(files, owned, free),
+    match choice(verify::check(img, drive, s)) {
+        Course::Leave(tally) => Verdict::Sound(tally),
         Course::Repair => repaired(img, drive, s),
         Course::SetAside(f) => Verdict::SetAside(f),
         Course::Refuse(why) => Verdict::Refused(why),

@@ -1,5 +1,6 @@
 -- The free chain's tests, by what the walk and the count find. Assumes nothing.
-use mathlib.Core.Path.{◌≡◌, refl, sym, ◌∙◌}
+use Rattle.std.specs.Prelude.{Result, Ok, Err}
+use mathlib.Core.Path.{◌≡◌, refl, sym, ap, ◌∙◌}
 use mathlib.Core.List.{List}
 use mathlib.Core.Bool.{Bool, true, false, true≢false}
 use Prim.Native.Nat.{ℕ, suc, ◌-◌, ◌≤◌, ◌<◌}
@@ -12,8 +13,7 @@ use Rattle.volume.proofs.Steps.{every_no}
 use Rattle.volume.specs.Files.{inside, within, chain, chained, free, free_head, once_test, free_sound}
 use Rattle.volume.specs.declared.Partition.{Partition}
 use Rattle.verify.specs.Walks.{walk, walked, named, free_at}
-use Rattle.verify.specs.declared.Walk.{Walk}
-use Rattle.verify.specs.declared.Walk.TheVariants.{Wrong, Free}
+use Rattle.verify.specs.declared.Chain.{Chain}
 use Rattle.verify.proofs.Free.{Fine, Verdict, fine, wrong, walk_says, fine_here}
 use Rattle.verify.proofs.Pigeon.{all_there, there_many, there_none}
 use Rattle.frame.specs.Chain.{last_in, head_chain}
@@ -31,7 +31,7 @@ module _ (π : Partition) (v : View) where
       more = omega arith
 
       go : (t : Bool) → inside π (free_head π v) ≡ t
-          → Verdict π v 0 0 (chain π v (suc (π.e - π.s - 1)) (free_head π v)) (pick (inside π (free_head π v)) (walk π v (suc (π.e - π.s - 1)) 0 (free_head π v) 0) (Wrong π.s))
+          → Verdict π v 0 0 (chain π v (suc (π.e - π.s - 1)) (free_head π v)) (pick (inside π (free_head π v)) (walk π v (suc (π.e - π.s - 1)) 0 (free_head π v) 0) (Err π.s))
       go true i = rw i (walk_says π v (π.e - π.s - 1) 0 (free_head π v) 0 i)
       go false i = rw i (wrong (λ g. true≢false (sym (chain_head (π.e - π.s - 1) (free_head π v) g) ∙ i)))
 
@@ -60,25 +60,28 @@ module _ (π : Partition) (v : View) where
       go true p false q = every_no _ 1 q
       go true p true q = absurd (h (there_many π v low c q p))
 
-  by_wrong : {l : List ℕ} {w : Walk} {x : ℕ} → Verdict π v 0 0 l w → w ≡ Wrong x → Fine π v 0 l → ⊥
+  by_wrong : {l : List ℕ} {w : Result Chain ℕ} {x : ℕ} → Verdict π v 0 0 l w → w ≡ Err x → Fine π v 0 l → ⊥
   by_wrong (fine g m z) q f = let z : ◌≡◌ {A = ℕ} 0 1 = cc in omega arith
   by_wrong (wrong h) q f = h f
 
-  pub record Counts (l : List ℕ) (n last : ℕ) : Type 0 where
+  pub record Counts (l : List ℕ) (c : Chain) : Type 0 where
     pub good : Fine π v 0 l
-    pub many : n ≡ length l
-    pub final : last ≡ last_of 0 l
+    pub many : c.blocks ≡ length l
+    pub final : c.last ≡ last_of 0 l
 
-  by_free : {l : List ℕ} {w : Walk} (n last : ℕ) → Verdict π v 0 0 l w → w ≡ Free n last → Counts l n last
-  by_free n last (fine {m = m} {z = z} g p q) h = let a : m ≡ n = cc in let b : z ≡ last = cc in record { good = g; many = omega arith; final = sym b ∙ q }
-  by_free n last (wrong g) h = let z : ◌≡◌ {A = ℕ} 0 1 = cc in absurd (omega arith)
+  by_free : {l : List ℕ} {w : Result Chain ℕ} (c : Chain) → Verdict π v 0 0 l w → w ≡ Ok c → Counts l c
+  by_free {l = l} c (fine {m = m} {z = z} g p q) h =
+      let a : record { blocks = m; last = z } ≡ c = cc in
+      let b : m ≡ length l = omega arith in
+      record { good = g; many = sym (ap (λ (x : Chain). x.blocks) a) ∙ b; final = sym (ap (λ (x : Chain). x.last) a) ∙ q }
+  by_free c (wrong g) h = let z : ◌≡◌ {A = ℕ} 0 1 = cc in absurd (omega arith)
 
-  module _ (h : π.s < π.e) {r : Walk} (q : r ≡ walked π v) where
-    pub free_wrong : {x : ℕ} → r ≡ Wrong x → false ≡ free_sound π v
+  module _ (h : π.s < π.e) {r : Result Chain ℕ} (q : r ≡ walked π v) where
+    pub free_wrong : {x : ℕ} → r ≡ Err x → false ≡ free_sound π v
     free_wrong t = sym (tests_no (by_wrong (walked_says h) (sym q ∙ t)))
 
-    pub free_counts : (n last : ℕ) → r ≡ Free n last → Counts (free π v) n last
-    free_counts n last t = by_free n last (walked_says h) (sym q ∙ t)
+    pub free_counts : (c : Chain) → r ≡ Ok c → Counts (free π v) c
+    free_counts c t = by_free c (walked_says h) (sym q ∙ t)
 
   some_of : (k b : ℕ) → 0 < length (chain π v (suc k) b)
   unfolding chain
@@ -96,14 +99,14 @@ module _ (π : Partition) (v : View) where
     unfolding free
     some_is = rw more (some_of (π.e - π.s - 1) (free_head π v))
 
-  module _ (h : π.s < π.e) (n last : ℕ) (g : Counts (free π v) n last) where
-    pub free_few : (n ≡ count (π.e - π.s) (free_at π v) → ⊥) → false ≡ free_sound π v
+  module _ (h : π.s < π.e) (c : Chain) (g : Counts (free π v) c) where
+    pub free_few : (c.blocks ≡ count (π.e - π.s) (free_at π v) → ⊥) → false ≡ free_sound π v
     free_few m = sym (tests_few h (λ z. m (g.many ∙ z)))
 
-    pub chain_rest : n ≡ count (π.e - π.s) (free_at π v) → named π v n last ≡ free_sound π v
+    pub chain_rest : c.blocks ≡ count (π.e - π.s) (free_at π v) → named π v c.blocks c.last ≡ free_sound π v
     unfolding free_sound named every
     chain_rest m =
         rw (all_there π v h (free π v) g.good (sym g.many ∙ m), g.good.ins, g.good.links, head_is h, ← g.final, lt-ltb 0 (length (free π v)) (some_is h), ← g.many)
 
-    pub last_is_in : last ≤ π.e
+    pub last_is_in : c.last ≤ π.e
     last_is_in = rw g.final (last_in π 0 (free π v) (omega arith) g.good.ins)

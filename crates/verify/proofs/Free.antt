@@ -1,10 +1,10 @@
 -- The walk of the free chain: laws for the loop, and what its answer says of the chain. Assumes nothing.
+use Rattle.std.specs.Prelude.{Result, Ok, Err}
 use mathlib.Core.Path.{◌≡◌, refl, sym, ◌∙◌, ap}
 use mathlib.Core.List.{List, [], ◌∷◌}
 use mathlib.Core.Bool.{Bool, true, false, not, true≢false}
 use Prim.Native.Nat.{ℕ, zero, suc, ◌+◌, ◌-◌, ◌≤◌, ◌<◌}
 use native.Mathlib.Omega.{arith}
-use native.Mathlib.Nat.{sub-zero}
 use lib.Dec.{ltb, leb, eqb}
 use lib.ListN.{length}
 use borrow.Author.Tests.{le-ltb, lt-leb, eq-eqb, eqb-true, eqb-false}
@@ -21,8 +21,7 @@ use Rattle.volume.proofs.Steps.{more, none, both_no, both_no_2}
 use Rattle.verify.specs.Walks.{onward, step_at, walk}
 use Rattle.verify.specs.declared.Step.{Step}
 use Rattle.verify.specs.declared.Step.TheVariants.{Bad, End, On}
-use Rattle.verify.specs.declared.Walk.{Walk}
-use Rattle.verify.specs.declared.Walk.TheVariants.{Wrong, Free}
+use Rattle.verify.specs.declared.Chain.{Chain}
 use Rattle.frame.specs.Chain.{chain_end, chain_more}
 
 -- blocks that are not in s+1..e
@@ -47,13 +46,10 @@ onward_by π x {c} h = go (eqb (pda π.drive block) x) refl
     go false q = rw (h, q, both_no_2 (inside π block) false refl, low_out π 0 (omega arith), onward)
 
 -- the loop: n passed of at most m, at block b with the address `own`; w is the answer of the whole
-pub record Walking (π : Partition) (v : View) (m before own b n : ℕ) (w : Walk) : Type 0 where
+pub record Walking (π : Partition) (v : View) (m before own b n : ℕ) (w : Result Chain ℕ) : Type 0 where
   pub left : walk π v (m - n) before b n ≡ w
   pub here : b ≤ π.e
   pub address : own ≡ pda π.drive b
-
-pub walk_starts : (π : Partition) (v : View) {own : ℕ} (b : ℕ) → b ≤ π.e → own ≡ pda π.drive b → Walking π v (π.e - π.s) 0 own b 0 (walk π v (π.e - π.s) 0 b 0)
-walk_starts π v b h q = record { left = rw (sub-zero (π.e - π.s)); here = h; address = q }
 
 -- a step leads to a block of the partition, by its address
 step_on : (π : Partition) (v : View) (before b c : ℕ) → step_at π v before b ≡ On c → (c ≤ π.e) × (pair v b next_at ≡ pda π.drive c)
@@ -75,16 +71,16 @@ step_on π v before b c h = go (owned π v b) refl (eqb (pair v b previous_at) b
         let m : pda_block π.drive x ≡ c = cc in
         (omega (arith, (inside_of π (pda_block π.drive x) i).1), sym (eqb-true _ _ j) ∙ ap (pda π.drive) m)
 
-module _ {π : Partition} {v : View} {m before own b n : ℕ} {w : Walk} (g : Walking π v m before own b n w) where
-  pub walk_out : m ≤ n → Wrong b ≡ w
+module _ {π : Partition} {v : View} {m before own b n : ℕ} {w : Result Chain ℕ} (g : Walking π v m before own b n w) where
+  pub walk_out : m ≤ n → Err b ≡ w
   unfolding walk
   walk_out l = rw (none l, walk) at g.left
 
-  pub walk_bad : {r : Step} → n < m → r ≡ step_at π v before b → r ≡ Bad → Wrong b ≡ w
+  pub walk_bad : {r : Step} → n < m → r ≡ step_at π v before b → r ≡ Bad → Err b ≡ w
   unfolding walk
   walk_bad l q t = rw (more l, ← q, t, walk) at g.left
 
-  pub walk_end : {r : Step} → n < m → r ≡ step_at π v before b → r ≡ End → Free (n + 1) b ≡ w
+  pub walk_end : {r : Step} → n < m → r ≡ step_at π v before b → r ≡ End → Ok (record { blocks = n + 1; last = b }) ≡ w
   unfolding walk
   walk_end l q t = rw (more l, ← q, t, walk) at g.left
 
@@ -107,9 +103,9 @@ module _ (π : Partition) (v : View) where
     pub links : chained π v before l ≡ true
     pub unowned : none_owned l ≡ true
 
-  pub data Verdict (before n : ℕ) (l : List ℕ) : Walk → Type 0 where
-    fine : {m z : ℕ} → Fine before l → m ≡ n + length l → z ≡ last_of 0 l → Verdict before n l (Free m z)
-    wrong : {x : ℕ} → (Fine before l → ⊥) → Verdict before n l (Wrong x)
+  pub data Verdict (before n : ℕ) (l : List ℕ) : Result Chain ℕ → Type 0 where
+    fine : {m z : ℕ} → Fine before l → m ≡ n + length l → z ≡ last_of 0 l → Verdict before n l (Ok (record { blocks = m; last = z }))
+    wrong : {x : ℕ} → (Fine before l → ⊥) → Verdict before n l (Err x)
 
   module _ (before b : ℕ) (l : List ℕ) where
     pub fine_owned : owned π v b ≡ true → Fine before (b ∷ l) → ⊥
@@ -153,7 +149,7 @@ module _ (π : Partition) (v : View) where
       let i = fine_here b _ _ (fine_rest before b _ g) in
       both_of i (eq-eqb _ _ (sym (fine_next before b _ g ∙ or_pda π _ i)))
 
-  extend : (before b n k : ℕ) {w : Walk} → inside π b ≡ true → owned π v b ≡ false → eqb (pair v b previous_at) (or_nil π.drive before) ≡ true
+  extend : (before b n k : ℕ) {w : Result Chain ℕ} → inside π b ≡ true → owned π v b ≡ false → eqb (pair v b previous_at) (or_nil π.drive before) ≡ true
       → both (inside π (pda_block π.drive (pair v b next_at))) (eqb (pda π.drive (pda_block π.drive (pair v b next_at))) (pair v b next_at)) ≡ true
       → Verdict b (n + 1) (chain π v (suc k) (pda_block π.drive (pair v b next_at))) w
       → Verdict before n (b ∷ chain π v (suc k) (pda_block π.drive (pair v b next_at))) w

@@ -1,5 +1,5 @@
 -- The walk of the free chain as the code makes it, and what check counts.
-use Rattle.std.specs.Prelude.{Bool, not, ℕ, zero, suc, ◌+◌, ◌-◌, eqb, [], ◌∷◌}
+use Rattle.std.specs.Prelude.{Bool, not, ℕ, zero, suc, ◌+◌, ◌-◌, eqb, [], ◌∷◌, Result, Ok, Err}
 use Rattle.base.specs.Tests.{pick, both, every}
 use Rattle.drive.specs.Address.{pda, pda_block, is_lda}
 use Rattle.image.specs.View.{View, pair}
@@ -8,8 +8,7 @@ use Rattle.volume.specs.Files.{block_at, inside, owned, free_head}
 use Rattle.volume.specs.declared.Partition.{Partition}
 use Rattle.verify.specs.declared.Step.{Step}
 use Rattle.verify.specs.declared.Step.TheVariants.{Bad, End, On}
-use Rattle.verify.specs.declared.Walk.{Walk}
-use Rattle.verify.specs.declared.Walk.TheVariants.{Wrong, Free}
+use Rattle.verify.specs.declared.Chain.{Chain}
 
 -- where the next link x leads: nil is the end, and the PDA of a block of s+1..e that block
 unfoldable pub onward : Partition → ℕ → Step
@@ -20,14 +19,15 @@ module _ (π : Partition) (v : View) where
   unfoldable pub step_at : ℕ → ℕ → Step
   step_at before b = pick (owned π v b) Bad (pick (eqb (pair v b previous_at) before) (onward π (pair v b next_at)) Bad)
 
-  -- at most k blocks from b on, with n passed, the last of which has the address `before`: the block with the first wrong link, or how
-  -- many blocks there are and the last
-  unfoldable pub walk : ℕ → ℕ → ℕ → ℕ → Walk
-  walk zero before b n = Wrong b
-  walk (suc k) before b n = elim (step_at before b) [ Bad ↦ Wrong b | End ↦ Free (n + 1) b | On c ↦ walk k (pda π.drive b) c (n + 1) ]
+  -- at most k blocks from b on, with n passed, the last of which has the address `before`: how many blocks there are and the last, or the
+  -- block with the first wrong link
+  unfoldable pub walk : ℕ → ℕ → ℕ → ℕ → Result Chain ℕ
+  walk zero before b n = Err b
+  walk (suc k) before b n =
+      elim (step_at before b) [ Bad ↦ Err b | End ↦ Ok (record { blocks = n + 1; last = b }) | On c ↦ walk k (pda π.drive b) c (n + 1) ]
 
-  unfoldable pub walked : Walk
-  walked = pick (inside π (free_head π v)) (walk (π.e - π.s) 0 (free_head π v) 0) (Wrong π.s)
+  unfoldable pub walked : Result Chain ℕ
+  walked = pick (inside π (free_head π v)) (walk (π.e - π.s) 0 (free_head π v) 0) (Err π.s)
 
   -- FreeHead is an LDA, FreeTail that of the last block, and NumberFree is n
   unfoldable pub named : ℕ → ℕ → Bool

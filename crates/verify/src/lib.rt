@@ -1,21 +1,22 @@
 // Code that decides soundness: the walk of the free chain, one pass over the blocks and the files among them, and check.
 #![tactic(auto)]
 
-ghost use Rattle.std.specs.Prelude.{◌≡◌, false, ◌-◌, ◌≤◌, ◌<◌};
-ghost use Rattle.base.specs.Tests.{all};
+ghost use Rattle.std.specs.Prelude.{◌≡◌, ◌-◌, ◌≤◌, ◌<◌};
 ghost use Rattle.base.specs.Sums.{sum};
 ghost use Rattle.image.specs.Image.{view};
-ghost use Rattle.volume.specs.Files.{file_test, free_sound, sound};
-ghost use Rattle.volume.specs.Answers.{Unmarred, check_in, checked};
-ghost use Rattle.volume.specs.Reads.{Lies};
+ghost use Rattle.volume.specs.Files.{free_sound, sound};
+ghost use Rattle.volume.specs.Answers.{check_in, checked};
 ghost use Rattle.verify.specs.Walks.{onward, step_at, walk, walked, named};
-ghost use Rattle.verify.specs.Survey.{size_at, standing, survey};
+ghost use Rattle.verify.specs.Survey.{size_at, standing, survey, fault};
 
 use base::Refusal;
+use inspect::{File, Volume};
+use links::Clean;
 use volume::words::{FREE_HEAD, FREE_TAIL, NEXT, NUMBER_FREE, PREVIOUS};
-use volume::{Found, Outcome, Part, Partition};
+use volume::{Outcome, Partition};
 
-// Where the free chain goes from a block: nowhere by a wrong link, to its end, or on to a block.
+// Where the free chain goes from a block: nowhere by a wrong link, to its end, or on to a block. The walk goes on, ends and fails in one match
+// over the three, so none is an error or an absence.
 #[derive(Clone, Copy)]
 pub enum Step {
     Bad,
@@ -23,25 +24,11 @@ pub enum Step {
     On(usize),
 }
 
-// What a walk of the free chain finds: the block with the first wrong link, or how many blocks and the last.
+// A free chain that was walked to its end: how many blocks it has, and the last.
 #[derive(Clone, Copy)]
-pub enum Walk {
-    Wrong(usize),
-    Free(usize, usize),
-}
-
-// How a candidate stands: a file of so many blocks that are linked, or not well formed or not linked.
-#[derive(Clone, Copy)]
-pub enum Standing {
-    Faulty,
-    File(usize),
-}
-
-// What a pass over the blocks finds: a faulty candidate, or how many files there are and how many blocks they have.
-#[derive(Clone, Copy)]
-pub enum Survey {
-    Faulty,
-    Linked(usize, usize),
+pub struct Chain {
+    pub blocks: usize,
+    pub last: usize,
 }
 
 // Where the next link x leads.
@@ -63,191 +50,167 @@ fn onward(p: Partition, x: usize) -> Step
 }
 
 // Where the chain goes from block b, whose previous link should be `before`.
-fn step_at(img: &[u8], p: Partition, before: usize, b: usize) -> Step
-    requires { (Lies p img.now) × (b ≤ p.e) × (Unmarred p (view img.now)) }
-    ensures { result ≡ step_at p (view img.now) before b }
+fn step_at(clean: &Clean<'_>, before: usize, b: usize) -> Step
+    requires { b ≤ clean.now.volume.p.e }
+    ensures { result ≡ step_at clean.now.volume.p (view clean.now.volume.img.now) before b }
 {
-    if links::owned(img, p, b) {
+    if links::owned(clean, b) {
         return Step::Bad;
     }
-    if image::pair(img, b, PREVIOUS) == before {
-        onward(p, image::pair(img, b, NEXT))
+    let volume = &clean.volume;
+    if image::pair(volume.img, b, PREVIOUS) == before {
+        onward(volume.p, image::pair(volume.img, b, NEXT))
     } else {
         Step::Bad
     }
 }
 
-// The chain from `head` on: left with the block of the first wrong link, or at its end with the count. The walk has the address of b, and
-// that of the block before: the link by which it came to a block is the block's address, so that none is worked out on the way.
-fn walk_from(img: &[u8], p: Partition, head: usize) -> Walk
-    requires { (Lies p img.now) × (head ≤ p.e) × (Unmarred p (view img.now)) }
-    ensures { result ≡ walk p (view img.now) (p.e - p.s) 0 head 0 }
+// The chain from `head` on, or the block of the first wrong link. The walk has the address of b, and that of the block before: the link by
+// which it came to a block is the block's address, so that none is worked out on the way.
+fn walk_from(clean: &Clean<'_>, head: usize) -> Result<Chain, usize>
+    requires { head ≤ clean.now.volume.p.e }
+    ensures { result ≡ walk clean.now.volume.p (view clean.now.volume.img.now) (clean.now.volume.p.e - clean.now.volume.p.s) 0 head 0 }
 {
-    let most = p.e - p.s;
+    let volume = &clean.volume;
+    let most = volume.p.e - volume.p.s;
     let mut before: usize = 0;
-    let mut own = drive::pda(p.drive, head);
+    let mut own = drive::pda(volume.p.drive, head);
     let mut b = head;
-    let mut n: usize = 0;
-    loop {
-        if n >= most {
-            break Walk::Wrong(b);
-        }
-        let x = step_at(img, p, before, b);
-        match x {
-            Step::Bad => {
-                break Walk::Wrong(b);
-            }
-            Step::End => {
-                break Walk::Free(n + 1, b);
-            }
+    for n in 0..most {
+        match step_at(clean, before, b) {
+            Step::Bad => return Err(b),
+            Step::End => return Ok(Chain {
+                blocks: n + 1,
+                last: b,
+            }),
             Step::On(c) => {
                 before = own;
-                own = image::pair(img, b, NEXT);
+                own = image::pair(volume.img, b, NEXT);
                 b = c;
-                n += 1;
             }
         }
     }
+    Err(b)
 }
 
-// The free chain from FreeHead on.
-fn walked(img: &[u8], p: Partition) -> Walk
-    requires { (Lies p img.now) × (Unmarred p (view img.now)) }
-    ensures { result ≡ walked p (view img.now) }
+// The free chain from FreeHead on, or the block of the first wrong link.
+fn walked(clean: &Clean<'_>) -> Result<Chain, usize>
+    ensures { result ≡ walked clean.now.volume.p (view clean.now.volume.img.now) }
 {
-    let head = drive::lda_block(p.drive, image::pair(img, p.s, FREE_HEAD));
+    let volume = &clean.volume;
+    let p = volume.p;
+    let head = drive::lda_block(p.drive, image::pair(volume.img, p.s, FREE_HEAD));
     if head <= p.s {
-        return Walk::Wrong(p.s);
+        return Err(p.s);
     }
     if p.e < head {
-        return Walk::Wrong(p.s);
+        return Err(p.s);
     }
-    walk_from(img, p, head)
+    walk_from(clean, head)
 }
 
 // Whether a free chain of n blocks, which ends at `last`, is the one that the PIB has.
-fn chain_named(img: &[u8], p: Partition, n: usize, last: usize) -> bool
-    requires { (Lies p img.now) × (last ≤ p.e) }
-    ensures { result ≡ named p (view img.now) n last }
+fn chain_named(volume: &Volume<'_>, n: usize, last: usize) -> bool
+    requires { last ≤ volume.now.p.e }
+    ensures { result ≡ named volume.now.p (view volume.now.img.now) n last }
 {
-    let x = image::pair(img, p.s, FREE_HEAD);
+    let p = volume.p;
+    let x = image::pair(volume.img, p.s, FREE_HEAD);
     if !drive::is_lda(p.drive, x, drive::lda_block(p.drive, x)) {
         return false;
     }
-    if !drive::is_lda(p.drive, image::pair(img, p.s, FREE_TAIL), last) {
+    if !drive::is_lda(p.drive, image::pair(volume.img, p.s, FREE_TAIL), last) {
         return false;
     }
-    image::pair(img, p.s, NUMBER_FREE) == n
+    image::pair(volume.img, p.s, NUMBER_FREE) == n
 }
 
 // Whether the free chain has each unowned block once and no other, and the PIB names it. The files have `owned` blocks.
-fn free_good(img: &[u8], p: Partition, owned: usize) -> bool
-    requires { (Lies p img.now) × (Unmarred p (view img.now)) × (owned ≡ sum (p.e - p.s) (size_at p (view img.now))) }
-    ensures { result ≡ free_sound p (view img.now) }
+fn free_good(clean: &Clean<'_>, owned: usize) -> bool
+    requires { owned ≡ sum (clean.now.volume.p.e - clean.now.volume.p.s) (size_at clean.now.volume.p (view clean.now.volume.img.now)) }
+    ensures { result ≡ free_sound clean.now.volume.p (view clean.now.volume.img.now) }
 {
-    let w = walked(img, p);
-    match w {
-        Walk::Wrong(_) => false,
-        Walk::Free(n, last) => {
-            if n != p.e - p.s - owned {
-                return false;
-            }
-            chain_named(img, p, n, last)
-        }
+    let Ok(chain) = walked(clean) else {
+        return false;
+    };
+    let volume = &clean.volume;
+    if chain.blocks != volume.p.e - volume.p.s - owned {
+        return false;
     }
+    chain_named(volume, chain.blocks, chain.last)
 }
 
-// How candidate f stands.
-fn stands(img: &[u8], p: Partition, f: usize) -> Standing
-    requires { (Lies p img.now) × (f ≤ p.e) }
-    ensures { result ≡ standing p (view img.now) f }
+// How many blocks candidate f has, if it is well formed and linked.
+fn stands(volume: &Volume<'_>, f: usize) -> Option<usize>
+    requires { f ≤ volume.now.p.e }
+    ensures { result ≡ standing volume.now.p (view volume.now.img.now) f }
 {
-    if !inspect::well_formed(img, p, f) {
-        return Standing::Faulty;
+    if !volume.well_formed(f) {
+        return None;
     }
-    if links::linked(img, p, f) {
-        Standing::File(inspect::size_of(inspect::len(img, f)))
+    let file = File { volume: *volume, f };
+    if links::linked(&file) {
+        Some(inspect::size_of(file.len()))
     } else {
-        Standing::Faulty
+        None
     }
 }
 
-// One pass over the blocks.
-fn surveyed(img: &[u8], p: Partition) -> Survey
-    requires { Lies p img.now }
-    ensures { result ≡ survey p (view img.now) }
+// One pass over the blocks: how many files there are and how many blocks they have, if each candidate is one that is linked.
+fn surveyed(volume: &Volume<'_>) -> Option<(usize, usize)>
+    ensures { result ≡ survey volume.now.p (view volume.now.img.now) }
 {
-    let m = p.e - p.s;
     let mut files: usize = 0;
     let mut owned: usize = 0;
-    for i in 0..m {
-        let f = p.s + i + 1;
-        if !inspect::candidate(img, p, f) {
+    for f in volume.p.s + 1..volume.p.e + 1 {
+        if !volume.candidate(f) {
             continue;
         }
-        let x = stands(img, p, f);
-        match x {
-            Standing::Faulty => {
-                return Survey::Faulty;
-            }
-            Standing::File(n) => {
-                files += 1;
-                owned += n;
-            }
-        }
+        owned += stands(volume, f)?;
+        files += 1;
     }
-    Survey::Linked(files, owned)
+    Some((files, owned))
 }
 
 // Whether a partition is sound.
-pub fn is_sound(img: &[u8], p: Partition) -> bool
-    requires { Lies p img.now }
-    ensures { result ≡ sound p (view img.now) }
+pub fn is_sound(volume: &Volume<'_>) -> bool
+    ensures { result ≡ sound volume.now.p (view volume.now.img.now) }
 {
-    let x = surveyed(img, p);
-    match x {
-        Survey::Faulty => false,
-        Survey::Linked(_, owned) => free_good(img, p, owned),
+    match surveyed(volume) {
+        Some((_, owned)) => free_good(&Clean { volume: *volume }, owned),
+        None => false,
     }
 }
 
-// Why a partition with a faulty candidate is refused: a malformed one comes before links.
-fn faulty(img: &[u8], p: Partition) -> Outcome
-    requires { (Lies p img.now) × (all (p.e - p.s) (file_test p (view img.now)) ≡ false) }
-    ensures { result ≡ check_in p (view img.now) }
+// Why a partition that is not sound is refused: a malformed candidate comes before links and the free chain.
+pub fn fault(volume: &Volume<'_>) -> Refusal
+    ensures { result ≡ fault volume.now.p (view volume.now.img.now) }
 {
-    let x = inspect::lowest_malformed(img, p);
-    match x {
-        Found::At(f) => Outcome::Refused(Refusal::Malformed(f)),
-        Found::Nothing => Outcome::Refused(Refusal::Unsound),
+    match volume.lowest_malformed() {
+        Some(f) => Refusal::Malformed(f),
+        None => Refusal::Unsound,
     }
 }
 
 // Check of a good partition.
-fn check_in(img: &[u8], p: Partition) -> Outcome
-    requires { Lies p img.now }
-    ensures { result ≡ check_in p (view img.now) }
+fn check_in(volume: &Volume<'_>) -> Outcome
+    ensures { result ≡ check_in volume.now.p (view volume.now.img.now) }
 {
-    let x = surveyed(img, p);
-    match x {
-        Survey::Faulty => faulty(img, p),
-        Survey::Linked(files, owned) => {
-            if free_good(img, p, owned) {
-                Outcome::Done(files, owned, p.e - p.s - owned)
-            } else {
-                Outcome::Refused(Refusal::Unsound)
-            }
-        }
+    let Some((files, owned)) = surveyed(volume) else {
+        return Err(fault(volume));
+    };
+    if free_good(&Clean { volume: *volume }, owned) {
+        Ok(Some((files, owned, volume.p.e - volume.p.s - owned)))
+    } else {
+        Err(Refusal::Unsound)
     }
 }
 
 // Check, a public call: files, owned blocks and free blocks, or why it is refused.
+#[tactic(auto, unfolding(volume::specs::Answers::checked))]
 pub fn check(img: &[u8], drive: usize, s: usize) -> Outcome
     ensures { result ≡ checked drive img.now s }
 {
-    let p = inspect::partition(img, drive, s);
-    match p {
-        Part::Refused(why) => Outcome::Refused(why),
-        Part::Good(e) => check_in(img, Partition { drive, s, e }),
-    }
+    let volume = inspect::open(img, drive, s)?;
+    check_in(&volume)
 }

@@ -5,3 +5,4 @@ pub mod Frame
 pub mod Closed
 pub mod Steps
 pub mod Readings
+pub mod Same

@@ -1,12 +1,10 @@
 -- Laws for code that goes by tests: a list of tests with one that fails, loops that test each number below k, searches.
-use Rattle.std.specs.Prelude.{◌≡◌, refl, List, [], ◌∷◌, Bool, true, false, ◌&&◌, ℕ, zero, suc, ◌+◌, ◌-◌, ◌*◌, ◌≤◌, ◌<◌, ltb, eqb, get_or}
+use Rattle.std.specs.Prelude.{◌≡◌, refl, List, [], ◌∷◌, Bool, true, false, ◌&&◌, ℕ, zero, suc, ◌+◌, ◌-◌, ◌*◌, ◌≤◌, ◌<◌, eqb, get_or, Option, Some, None, min}
 use Rattle.std.proofs.Common.{sym, ◌∙◌, ⊎_elim, true≢false, eq-or-lt_of_le, arith, rules, eq-eqb, ne_eqb}
 use Rattle.std.proofs.lemmas.Bool.{not-true, not-false}
-use Rattle.base.specs.Tests.{pick, both, every, all}
+use Rattle.base.specs.Tests.{both, every, all}
 use Rattle.base.specs.Laws.{all_at, all_of, never}
 use Rattle.volume.specs.Answers.{lowest}
-use Rattle.volume.specs.declared.Found.{Found}
-use Rattle.volume.specs.declared.Found.TheVariants.{At, Nothing}
 
 -- a test that fails decides the list
 pub every_no : (l : List Bool) (i : ℕ) → get_or l i true ≡ false → every l ≡ false
@@ -74,34 +72,34 @@ pub none : {b e : ℕ} → e ≤ b → e - b ≡ zero
 none l = omega arith
 
 -- a search finds a number in its range
-pub lowest_at : (p : ℕ → Bool) (a n f : ℕ) → lowest p a n ≡ At f → f < a + n
+pub lowest_at : (p : ℕ → Bool) (a n f : ℕ) → lowest p a n ≡ Some f → f < a + n
 unfolding lowest
 lowest_at p a zero f q = let z : ◌≡◌ {A = ℕ} 0 1 = cc in absurd (omega arith)
 lowest_at p a (suc n) f q = go (p a) q (lowest_at p (a + 1) n f)
   where
-    go : (t : Bool) → elim t [ true ↦ At a | false ↦ lowest p (a + 1) n ] ≡ At f → (lowest p (a + 1) n ≡ At f → f < a + 1 + n) → f < a + suc n
+    go : (t : Bool) → elim t [ true ↦ Some a | false ↦ lowest p (a + 1) n ] ≡ Some f → (lowest p (a + 1) n ≡ Some f → f < a + 1 + n) → f < a + suc n
     go true q ih = let z : a ≡ f = cc in omega arith
     go false q ih = let z = ih q in omega arith
 
 -- and one that passes
-pub lowest_passes : (p : ℕ → Bool) (a n f : ℕ) → lowest p a n ≡ At f → p f ≡ true
+pub lowest_passes : (p : ℕ → Bool) (a n f : ℕ) → lowest p a n ≡ Some f → p f ≡ true
 unfolding lowest
 lowest_passes p a zero f q = let z : ◌≡◌ {A = ℕ} 0 1 = cc in absurd (omega arith)
 lowest_passes p a (suc n) f q = go (p a) refl q (lowest_passes p (a + 1) n f)
   where
-    go : (t : Bool) → p a ≡ t → elim t [ true ↦ At a | false ↦ lowest p (a + 1) n ] ≡ At f → (lowest p (a + 1) n ≡ At f → p f ≡ true) → p f ≡ true
+    go : (t : Bool) → p a ≡ t → elim t [ true ↦ Some a | false ↦ lowest p (a + 1) n ] ≡ Some f → (lowest p (a + 1) n ≡ Some f → p f ≡ true) → p f ≡ true
     go true h q ih = let z : a ≡ f = cc in rw (← z) h
     go false h q ih = ih q
 
 -- a search up to e that is at b: what is left to search has the whole's answer
-pub record Searching (p : ℕ → Bool) (e b : ℕ) (w : Found) : Type 0 where
+pub record Searching (p : ℕ → Bool) (e b : ℕ) (w : Option ℕ) : Type 0 where
   pub left : lowest p b (e - b) ≡ w
 
 pub search_starts_as : (p : ℕ → Bool) (a e n : ℕ) → n ≡ e - a → Searching p e a (lowest p a n)
 search_starts_as p a e n h = rw h (record { left = refl })
 
-module _ {p : ℕ → Bool} {e b : ℕ} {w : Found} (s : Searching p e b w) where
-  pub search_hit : {r : Bool} → b < e → r ≡ p b → r ≡ true → At b ≡ w
+module _ {p : ℕ → Bool} {e b : ℕ} {w : Option ℕ} (s : Searching p e b w) where
+  pub search_hit : {r : Bool} → b < e → r ≡ p b → r ≡ true → Some b ≡ w
   unfolding lowest
   search_hit l q t = rw (more l, ← q, t, lowest) at s.left
 
@@ -109,7 +107,7 @@ module _ {p : ℕ → Bool} {e b : ℕ} {w : Found} (s : Searching p e b w) wher
   unfolding lowest
   search_next l q t = record { left = rw (more l, ← q, t, lowest) at s.left }
 
-  pub search_end : e ≤ b → Nothing ≡ w
+  pub search_end : e ≤ b → None ≡ w
   unfolding lowest
   search_end l = rw (none l) at s.left
 
@@ -121,12 +119,8 @@ pub record Indexed (P Q : ℕ → Bool) (p k i b : ℕ) (w : Bool) : Type 0 wher
   pub dat : (r : ℕ) → r < k → r < b → Q r ≡ true
   pub is : w ≡ both (all p P) (all k Q)
 
-pub index_starts : (P Q : ℕ → Bool) (p k m : ℕ) {r : Bool} → r ≡ all m Q → r ≡ true → m ≡ pick (ltb k 64) k 64 → Indexed P Q p k 0 (64 + 128 * 0) (both (all p P) (all k Q))
-index_starts P Q p k m q t h = record { ptrs = λ j l. absurd (omega arith); dat = λ r l u. all_at m Q (sym q ∙ t) r (go r l u (ltb k 64) refl); is = refl }
-  where
-    go : (r : ℕ) → r < k → r < 64 → (t : Bool) → ltb k 64 ≡ t → r < m
-    go r l u true j = let z : m ≡ k = h ∙ rw j in omega arith
-    go r l u false j = let z : m ≡ 64 = h ∙ rw j in omega arith
+pub index_starts : (P Q : ℕ → Bool) (p k m : ℕ) {r : Bool} → r ≡ all m Q → r ≡ true → m ≡ min k 64 → Indexed P Q p k 0 (64 + 128 * 0) (both (all p P) (all k Q))
+index_starts P Q p k m q t h = record { ptrs = λ j l. absurd (omega arith); dat = λ r l u. all_at m Q (sym q ∙ t) r (omega arith); is = refl }
 
 pub index_few_fails : (P Q : ℕ → Bool) (p k m : ℕ) {r : Bool} → m ≤ k → r ≡ all m Q → r ≡ false → false ≡ both (all p P) (all k Q)
 index_few_fails P Q p k m l q t = sym (both_no_2 (all p P) _ (all_fewer k m Q l (sym q ∙ t)))
@@ -161,6 +155,6 @@ pub and_true : (a : Bool) → (a && true) ≡ a
 and_true true = refl
 and_true false = refl
 
-pub lowest_nothing : (p : ℕ → Bool) (a n : ℕ) → n ≡ 0 → Nothing ≡ lowest p a n
+pub lowest_nothing : (p : ℕ → Bool) (a n : ℕ) → n ≡ 0 → None ≡ lowest p a n
 unfolding lowest
 lowest_nothing p a n h = rw h

@@ -1,9 +1,11 @@
 -- What each changing call answers and stores, of the image's bytes l: its refusals in their order (docs/FORMAT.md, 7.4), the values, the
 -- list of stores with the deciding one's place (9.2), and the file named or created.
-use Rattle.std.specs.Prelude.{◌≡◌, List, [], ◌∷◌, ℕ, ◌+◌, leb, ltb, eqb, length, take}
+use Rattle.volume.specs.declared.Unfit.TheVariants.{Length, Name}
+use Rattle.volume.specs.Outcome.{Outcome}
+use Rattle.std.specs.Prelude.{◌≡◌, List, [], ◌∷◌, ℕ, ◌+◌, leb, ltb, eqb, length, take, Option, Some, None, Ok, Err}
 use Rattle.base.specs.Tests.{pick}
 use Rattle.base.specs.declared.Refusal.{Refusal}
-use Rattle.base.specs.declared.Refusal.TheVariants.{BadBuffer, Malformed, Unsound, NoCandidate, BadBlock, Full, NothingFree, BadName}
+use Rattle.base.specs.declared.Refusal.TheVariants.{Malformed, Unsound, NoCandidate, BadBlock, Full, NothingFree}
 use Rattle.image.specs.View.{View, Rec, Store}
 use Rattle.image.specs.Image.{view}
 use Rattle.image.specs.Stores.{stored}
@@ -15,12 +17,7 @@ use Rattle.volume.specs.Answers.{partition, in_partition, lowest_malformed}
 use Rattle.volume.specs.Names.{good_name}
 use Rattle.volume.specs.Plans.{Plan, stores, create_plan, describe_plan, destroy_plan, repair_plan}
 use Rattle.volume.specs.Writes.{needs, write_plan, replace_plan}
-use Rattle.volume.specs.declared.Found.{Found}
-use Rattle.volume.specs.declared.Found.TheVariants.{At, Nothing}
-use Rattle.volume.specs.declared.Lent.{Lent}
-use Rattle.volume.specs.declared.Lent.TheVariants.{Fine, WrongLength, WrongName}
-use Rattle.volume.specs.declared.Outcome.{Outcome}
-use Rattle.volume.specs.declared.Outcome.TheVariants.{Done, Refused}
+use Rattle.volume.specs.Outcome.{Lent, unfit_refusal}
 use Rattle.volume.specs.declared.Answer.{Answer}
 
 -- what a call comes to, its stores in order, and the places of the deciding ones among them
@@ -36,31 +33,30 @@ decided (i ∷ is) k = pick (ltb i k) 1 0 + decided is k
 
 -- nothing is stored under a refusal
 abbrev pub refuse : Refusal → Planned
-refuse y = record { outcome = Refused y; list = []; deciding = [] }
+refuse y = record { outcome = Err y; list = []; deciding = [] }
 
 -- a call that is done, with the value a
 abbrev pub finish : ℕ → Plan → Planned
-finish a p = record { outcome = Done a 0 0; list = stores p; deciding = length p.before ∷ [] }
+finish a p = record { outcome = Ok (Some (a, 0, 0)); list = stores p; deciding = length p.before ∷ [] }
 
 -- ---- refusals 1 to 5 and 12, on the unchanged image
 
 -- 3 and 12, which the buffer alone decides, and then k
 abbrev pub lending : Lent → Planned → Planned
-lending Fine k = k
-lending WrongLength k = refuse BadBuffer
-lending WrongName k = refuse BadName
+lending (Ok u) k = k
+lending (Err w) k = refuse (unfit_refusal w)
 
 -- a block, and a description, as lent
 unfoldable pub lent_block : List ℕ → Lent
-lent_block block = pick (eqb (length block) 512) Fine WrongLength
+lent_block block = pick (eqb (length block) 512) (Ok tt) (Err Length)
 
 unfoldable pub lent_text : List ℕ → Lent
-lent_text text = pick (eqb (length text) 104) (pick (good_name text) Fine WrongName) WrongLength
+lent_text text = pick (eqb (length text) 104) (pick (good_name text) (Ok tt) (Err Name)) (Err Length)
 
 -- 4, and then k
-abbrev pub unmarred : Found → Planned → Planned
-unmarred (At f) k = refuse (Malformed f)
-unmarred Nothing k = k
+abbrev pub unmarred : Option ℕ → Planned → Planned
+unmarred (Some f) k = refuse (Malformed f)
+unmarred None k = k
 
 -- 3, 12, 4, 5 in a good partition, and then k
 abbrev pub gated : Partition → View → Lent → Planned → Planned
@@ -115,10 +111,10 @@ pub data Call : Type 0 where
 
 -- changing calls are refused by 1 to 8 and 12, repair by 1, 2, 4, 9
 unfoldable pub planned : ℕ → List ℕ → ℕ → Call → Planned
-planned d l s (create kind) = through d l s Fine (λ π. create_in π (view l) kind)
+planned d l s (create kind) = through d l s (Ok tt) (λ π. create_in π (view l) kind)
 planned d l s (write f r block) = through d l s (lent_block block) (λ π. write_in π (view l) f r (words block))
 planned d l s (describe f text) = through d l s (lent_text text) (λ π. describe_in π (view l) f (words text))
-planned d l s (destroy f) = through d l s Fine (λ π. destroy_in π (view l) f)
+planned d l s (destroy f) = through d l s (Ok tt) (λ π. destroy_in π (view l) f)
 planned d l s repair =
     in_partition refuse (partition d l s) (λ e. let π = partition_of d s e in unmarred (lowest_malformed π (view l)) (repair_in π (view l)))
 
@@ -130,3 +126,10 @@ pub record Answered (limit : ℕ) (p : Planned) (l l' : List ℕ) (a : Answer) :
   pub outcome : a.outcome ≡ p.outcome
   pub made : a.made ≡ length (take limit p.list)
   pub image : l' ≡ stored (take limit p.list) l
+
+-- the answer of a call that is refused, and of one that is done, with the value a after n stores
+abbrev pub refusal : Refusal → Answer
+refusal y = record { made = 0; outcome = Err y }
+
+abbrev pub completion : ℕ → ℕ → Answer
+completion a n = record { made = n; outcome = Ok (Some (a, 0, 0)) }

@@ -1,4 +1,5 @@
 pub mod Words
+pub mod Outcome
 pub mod Search
 pub mod Keys
 pub mod Places

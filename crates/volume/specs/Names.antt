@@ -1,13 +1,26 @@
 -- Names that can be typed (docs/FORMAT.md, 7.8), of the bytes of a description: which name is good, and what the call `name` answers of one.
 -- The name is a string: byte 22 is its length, and the characters follow. Places count from 0.
-use Rattle.std.specs.Prelude.{Bool, true, not, ◌||◌, List, [], ◌∷◌, ℕ, ◌+◌, leb, ltb, eqb, length, get_or}
+use Rattle.volume.specs.Outcome.{Outcome}
+use Rattle.std.specs.Prelude.{Bool, true, ◌||◌, List, [], ◌∷◌, ℕ, ◌+◌, leb, ltb, eqb, length, get_or, is_some, is_none, Option, Some, None, Ok, Err}
 use Rattle.base.specs.Tests.{pick, both, all}
 use Rattle.base.specs.declared.Refusal.TheVariants.{BadBuffer}
 use Rattle.volume.specs.Answers.{lowest}
-use Rattle.volume.specs.declared.Found.{Found}
-use Rattle.volume.specs.declared.Found.TheVariants.{At, Nothing}
-use Rattle.volume.specs.declared.Outcome.{Outcome}
-use Rattle.volume.specs.declared.Outcome.TheVariants.{Done, Refused}
+use Rattle.volume.specs.declared.Rule.{Rule}
+use Rattle.volume.specs.declared.Rule.TheVariants as rules
+
+-- ---- the rules, and their numbers
+
+abbrev pub rule_number : Rule → ℕ
+rule_number rules.Length = 1
+rule_number rules.Control = 2
+rule_number rules.Reserved = 3
+rule_number rules.Final = 4
+rule_number rules.Dots = 5
+
+-- of the rule that is broken, or 0
+abbrev pub broken_number : Option Rule → ℕ
+broken_number (Some r) = rule_number r
+broken_number None = 0
 
 -- ---- characters and lengths that no name has
 
@@ -45,22 +58,29 @@ module _ (text : List ℕ) where
   unfoldable pub dots : ℕ → Bool
   dots i = spells i (62 ∷ 46 ∷ 62 ∷ []) || spells i (62 ∷ 46 ∷ 46 ∷ 62 ∷ [])
 
-  -- the rule that is broken at place i, or 0
-  unfoldable pub broken : ℕ → ℕ
-  broken i = pick (control (character i)) 2 (pick (reserved (character i)) 3 (pick (final i) 4 (pick (dots i) 5 0)))
+  -- the rule that is broken at place i, if one is
+  unfoldable pub broken : ℕ → Option Rule
+  broken i =
+      pick (control (character i)) (Some rules.Control)
+      (pick (reserved (character i)) (Some rules.Reserved)
+      (pick (final i) (Some rules.Final)
+      (pick (dots i) (Some rules.Dots) None)))
 
   -- a name that describe takes: 1 to 80 characters, and no rule broken at any
   unfoldable pub good_name : Bool
-  good_name = both (good_length name_length) (all name_length (λ i. eqb (broken i) 0))
+  good_name = both (good_length name_length) (all name_length (λ i. is_none (broken i)))
 
-  -- ---- the call `name`: 3; the rule that is broken first, with its place counted from 1; 1 is the length, 0 none
+  -- ---- the call `name`: 3; the number of the rule that is broken first, with its place counted from 1; the length has place 0, and no rule 0 and 0
 
-  abbrev pub fault_at : Found → Outcome
-  fault_at (At i) = Done (broken i) (i + 1) 0
-  fault_at Nothing = Done 0 0 0
+  abbrev pub fault_at : Option ℕ → Outcome
+  fault_at (Some i) = Ok (Some (broken_number (broken i), i + 1, 0))
+  fault_at None = Ok (Some (0, 0, 0))
 
-  unfoldable pub first_broken : Found
-  first_broken = lowest (λ i. not (eqb (broken i) 0)) 0 name_length
+  unfoldable pub first_broken : Option ℕ
+  first_broken = lowest (λ i. is_some (broken i)) 0 name_length
 
   unfoldable pub name_answer : Outcome
-  name_answer = pick (eqb (length text) 104) (pick (good_length name_length) (fault_at first_broken) (Done 1 0 0)) (Refused BadBuffer)
+  name_answer =
+      pick (eqb (length text) 104)
+      (pick (good_length name_length) (fault_at first_broken) (Ok (Some (rule_number rules.Length, 0, 0))))
+      (Err BadBuffer)

@@ -1,5 +1,6 @@
 -- Each of the numbers 1 to 10 (docs/FORMAT.md, 7.3) is given by some input: no refusal is vacuous. By computation.
-use Rattle.std.specs.Prelude.{◌≡◌, refl, List, [], ◌∷◌, ◌++◌, ℕ, eqb, take, replicate}
+use Rattle.std.specs.Prelude.{◌≡◌, refl, List, [], ◌∷◌, ◌++◌, ℕ, eqb, take, replicate, Result, Ok, Err}
+use Rattle.base.specs.declared.Refusal.{Refusal}
 use Rattle.base.specs.Tests.{pick, both, every, tab_from, head_of, last_of, those, all, count, occ, same_row, same_table}
 use Rattle.base.specs.Tests as tests
 use Rattle.base.specs.Laws.{same_table_is}
@@ -10,6 +11,7 @@ use Rattle.drive.specs.Address.{blocks, pda, pda_block, lda, lda_block, file_id,
 use Rattle.drive.specs.Answers.{lbn_to_pda, lbn_to_lda, pda_to_lbn, lda_to_lbn, lbn_to_file_id}
 use Rattle.image.specs.View.{View, after, pair, put, put2, blank}
 use Rattle.image.specs.Saves.{with_data, with_text, words}
+use Rattle.volume.specs.declared.Unfit.TheVariants.{Name}
 use Rattle.volume.specs.Search.{seek, down}
 use Rattle.volume.specs.Keys.{key_of, number, up, slot, child, first, low, span}
 use Rattle.volume.specs.Files.{partition_of, inside, within, candidate, len, spot_in, present_in, spot, present, entry, least, size, tally, named, indexed, gapless, well_formed, is_file, is_malformed, key, owned, files, unowned, above, below, link, linked, chain, free, chained, free_sound, sound}
@@ -17,19 +19,16 @@ use Rattle.volume.specs.declared.Partition.{Partition}
 use Rattle.volume.specs.Plans.{new_first, pib_less, fresh_fib, gone, top_gone, fib_gone, top_gone_stores, last_gone_stores, pib_more, destroyed, trimmed, shaped, stores, free_at, taken_stores, create_plan, describe_plan, destroy_plan, content, relinked, freed, repaired, repaired_pib, repair_plan}
 use Rattle.volume.specs.Writes.{put2_if, over, counted, inner, needs, is_new, fresh, present', spot', above', below', least', size', link', early, empty, base, entered, ended, body, grown, plan_of, write_plan, replace_plan}
 use Rattle.volume.specs.Calls.{refuse, gated, create_in, append_in, write_in, describe_in, destroy_in, repair_in}
-use Rattle.volume.specs.declared.Lent.TheVariants.{WrongName}
 use Rattle.base.specs.declared.Refusal.TheVariants.{Full}
 use Rattle.image.specs.Image.{view}
-use Rattle.volume.specs.declared.Part.{Part}
-use Rattle.volume.specs.declared.Part.TheVariants as part
 use Rattle.volume.specs.Words.{serial_at, relative_at, filler_at, next_at, previous_at, data_at, last_block_at, kind_at}
 use Rattle.volume.specs.Answers.{lowest, lowest_malformed, tallied, check_in, image_good, end_of, part_good, partition, show_in, shown, read_from}
 use Rattle.volume.specs.Table.{outcome_of, one_number, seven, zeroed, block}
 
 -- a partition's refusal
-abbrev pub part_of : Part → List ℕ
-part_of (part.Good e) = []
-part_of (part.Refused y) = 2 ∷ refusals.number y ∷ []
+abbrev pub part_of : Result ℕ Refusal → List ℕ
+part_of (Ok e) = []
+part_of (Err y) = 2 ∷ refusals.number y ∷ []
 
 -- the bytes of an image of three records on a floppy whose partition is 1..2
 unfoldable pub small : List ℕ
@@ -62,7 +61,7 @@ given =
     ∷ outcome_of (create_in two w 5).outcome
     ∷ outcome_of (repair_in two taken).outcome
     ∷ one_number (lbn_to_file_id 2 57344)
-    ∷ outcome_of (gated seven torn WrongName (refuse Full)).outcome
+    ∷ outcome_of (gated seven torn (Err Name) (refuse Full)).outcome
     ∷ []
 
 pub numbers : List (List ℕ)

@@ -1,17 +1,17 @@
 -- The worked examples M1 to M12 (docs/FORMAT.md, 13), and after them some with reserved bits in every LDA, proved of the definitions by
 -- computation as one table: `table` is what the definitions give, `paper` what the customer's rules print or, of the reserved bits, what
 -- follows from them by hand, and `worked` says that they are equal.
-use Rattle.std.specs.Prelude.{◌≡◌, refl, List, [], ◌∷◌, ◌++◌, ℕ, ◌+◌, ◌/◌, ◌%◌, eqb, take}
+use Rattle.volume.specs.Outcome.{Outcome}
+use Rattle.std.specs.Prelude.{◌≡◌, refl, List, [], ◌∷◌, ◌++◌, ℕ, ◌+◌, ◌/◌, ◌%◌, eqb, take, Some, None, Ok, Err, Result}
 use Rattle.base.specs.Tests.{pick, both, every, tab_from, head_of, last_of, those, all, count, occ, same_row, same_table}
 use Rattle.base.specs.Tests as tests
 use Rattle.base.specs.Laws.{same_table_is}
 use Rattle.base.specs.Refusals as refusals
+use Rattle.base.specs.declared.Refusal.{Refusal}
 use Rattle.drive.specs.Code.{place_number, guess}
 use Rattle.drive.specs.Rows.{on_drive}
 use Rattle.drive.specs.Address.{blocks, pda, pda_block, lda, lda_block, file_id, file_id_block, file_ids, is_lda, address}
 use Rattle.drive.specs.Answers.{lbn_to_pda, lbn_to_lda, pda_to_lbn, lda_to_lbn, lbn_to_file_id}
-use Rattle.drive.specs.declared.Converted.{Converted}
-use Rattle.drive.specs.declared.Converted.TheVariants as convert
 use Rattle.image.specs.View.{View, Rec, upd, after, places, put, put2, blank}
 use Rattle.image.specs.Saves.{with_data, with_text, words}
 use Rattle.volume.specs.Words.{partition_start_at, partition_end_at, slot_at, direct_at, last_address_at, low_address_at, free_head_at, free_tail_at}
@@ -24,23 +24,21 @@ use Rattle.volume.specs.Plans.{new_first, pib_less, fresh_fib, gone, top_gone, f
 use Rattle.volume.specs.Writes.{put2_if, over, counted, inner, needs, is_new, fresh, present', spot', above', below', least', size', link', early, empty, base, entered, ended, body, grown, plan_of, write_plan, replace_plan}
 use Rattle.volume.specs.Places.{minus, named_by}
 use Rattle.volume.specs.Calls.{Planned, create_in, append_in, write_in, describe_in, destroy_in, repair_in}
-use Rattle.volume.specs.declared.Outcome.{Outcome}
-use Rattle.volume.specs.declared.Outcome.TheVariants.{Done, Absent, Refused}
 
 -- a conversion's answer: the two words, or the number of its refusal
-abbrev pub two_words : Converted → List ℕ
-two_words (convert.Number x) = x % 65536 ∷ x / 65536 ∷ []
-two_words (convert.Refused y) = refusals.number y ∷ []
+abbrev pub two_words : Result ℕ Refusal → List ℕ
+two_words (Ok x) = x % 65536 ∷ x / 65536 ∷ []
+two_words (Err y) = refusals.number y ∷ []
 
-abbrev pub one_number : Converted → List ℕ
-one_number (convert.Number x) = x ∷ []
-one_number (convert.Refused y) = refusals.number y ∷ []
+abbrev pub one_number : Result ℕ Refusal → List ℕ
+one_number (Ok x) = x ∷ []
+one_number (Err y) = refusals.number y ∷ []
 
 -- what a call came to: 0 and its values, or 2 and the number of its refusal
 abbrev pub outcome_of : Outcome → List ℕ
-outcome_of (Done a b c) = 0 ∷ a ∷ b ∷ c ∷ []
-outcome_of Absent = 1 ∷ []
-outcome_of (Refused y) = 2 ∷ refusals.number y ∷ []
+outcome_of (Ok (Some x)) = 0 ∷ x.0 ∷ x.1 ∷ x.2 ∷ []
+outcome_of (Ok None) = 1 ∷ []
+outcome_of (Err y) = 2 ∷ refusals.number y ∷ []
 
 -- the answer of a changing call, then the blocks that it stores in order, then the place of the deciding one
 abbrev pub row_of : Planned → List ℕ

@@ -1,6 +1,11 @@
 // The partition, and what the calls answer. The definitions stand in specs/; docs/FORMAT.md has them in words, rule by rule.
 #![tactic(auto)]
 
+ghost use Rattle.std.specs.Prelude.{◌≡◌};
+ghost use Rattle.volume.specs.Calls.{refusal, completion};
+ghost use Rattle.volume.specs.Names.{rule_number};
+ghost use Rattle.volume.specs.Outcome.{unfit_refusal};
+
 use base::Refusal;
 
 pub mod words; // words.rt: where the words of a record stand
@@ -13,35 +18,58 @@ pub struct Partition {
     pub e: usize,
 }
 
-// The lowest block with something, if any has it.
-#[derive(Clone, Copy)]
-pub enum Found {
-    At(usize),
-    Nothing,
+// What is wrong with the buffer that a changing call is lent, looked at alone: its length, or the name of a description.
+#[derive(Clone, Copy, PartialEq, Eq)]
+pub enum Unfit {
+    Length,
+    Name,
 }
 
-// The end of a good partition, or why it is refused.
-#[derive(Clone, Copy)]
-pub enum Part {
-    Good(usize),
-    Refused(Refusal),
+impl From<Unfit> for Refusal {
+    ghost from_gives = { λ unfit why. why ≡ unfit_refusal unfit };
+
+    fn from(unfit: Unfit) -> Refusal {
+        match unfit {
+            Unfit::Length => Refusal::BadBuffer,
+            Unfit::Name => Refusal::BadName,
+        }
+    }
 }
 
-// The buffer that a changing call is lent, looked at alone: as the call wants it, of another length, or a description with a bad name.
-#[derive(Clone, Copy)]
-pub enum Lent {
-    Fine,
-    WrongLength,
-    WrongName,
+// The buffer that a changing call is lent: as the call wants it, or what is wrong with it.
+pub type Lent = Result<(), Unfit>;
+
+// The rules that a name can break (docs/FORMAT.md, 7.8), in the order of their numbers: the length's, and those of each place. They are told
+// here, and not in the crate names, which tests for them, because specs/Names.antt speaks of them.
+#[derive(Clone, Copy, PartialEq, Eq)]
+pub enum Rule {
+    Length,
+    Control,
+    Reserved,
+    Final,
+    Dots,
 }
 
-// What a call came to: done, with up to three values; nothing there; or why it is refused.
-#[derive(Clone, Copy)]
-pub enum Outcome {
-    Done(usize, usize, usize),
-    Absent,
-    Refused(Refusal),
+// A rule as its number.
+impl From<Rule> for usize {
+    ghost from_gives = { λ rule n. n ≡ rule_number rule };
+
+    fn from(rule: Rule) -> usize {
+        match rule {
+            Rule::Length => 1,
+            Rule::Control => 2,
+            Rule::Reserved => 3,
+            Rule::Final => 4,
+            Rule::Dots => 5,
+        }
+    }
 }
+
+// The values of a call that is done: three, as an answer in C has them, of which those that the call does not have are 0.
+pub type Values = (usize, usize, usize);
+
+// What a call came to: done, with its values, or nothing there; or why it is refused.
+pub type Outcome = Result<Option<Values>, Refusal>;
 
 // A call's answer: what it came to, and how many stores it made.
 #[derive(Clone, Copy)]
@@ -50,9 +78,38 @@ pub struct Answer {
     pub outcome: Outcome,
 }
 
-// The answer of show of a pair: what it came to, and whose answer that is: 1 the repaired image's, 2 the original's.
+impl Answer {
+    // The answer of a changing call that is refused: it made no store.
+    pub fn refused(why: Refusal) -> Self
+        ensures { result ≡ refusal why }
+    {
+        Answer {
+            made: 0,
+            outcome: Err(why),
+        }
+    }
+
+    // The answer of a changing call that is done, with the value a, after so many stores.
+    pub fn done(a: usize, made: usize) -> Self
+        ensures { result ≡ completion a made }
+    {
+        Answer {
+            made,
+            outcome: Ok(Some((a, 0, 0))),
+        }
+    }
+}
+
+// An image of a pair.
+#[derive(Clone, Copy, Debug, PartialEq, Eq)]
+pub enum Source {
+    Repaired,
+    Original,
+}
+
+// The answer of show of a pair: what it came to, and whose answer that is.
 #[derive(Clone, Copy)]
 pub struct PairAnswer {
-    pub image: usize,
+    pub image: Source,
     pub outcome: Outcome,
 }

@@ -4,179 +4,148 @@
 
 ghost use Rattle.std.specs.Prelude.{◌<◌};
 
-use std::io;
-use volume::Outcome;
+use std::{fmt, io, iter};
+use volume::Answer;
 use volume::words::{FREE_HEAD, LAST_BLOCK, NEXT, PARTITION_END, PARTITION_START};
 
-// The example's calls in their order.
-const CREATE: usize = 0;
+const DRIVE: usize = 0;
 
-const FIRST: usize = 1;
+// The partition's first block, which has the head of the free chain, and its last.
+const START: usize = 1;
 
-const SECOND: usize = 2;
+const END: usize = 7;
 
-const DESTROY: usize = 3;
+// The file that is created, by its block, and its type.
+const FILE: usize = 2;
 
-const REPAIR: usize = 4;
+const KIND: u16 = 5;
 
 // More stores than any call here has.
 const ALL: usize = 100;
 
-// An image of eight zero records, with the start 1 and the end 7 set in record 1.
-fn unmade() -> [u8; 4224] {
-    let mut img = [0u8; 4224];
-    let r = image::with_pair(image::blank(), PARTITION_START, 256 * (1 + 12582912));
-    let r = image::with_pair(r, PARTITION_END, 256 * (7 + 12582912));
-    image::store_at(&mut img, 1, r);
+const RECORD: usize = 528;
+
+type Image = [u8; 8 * RECORD];
+
+// The example's calls; an append has the relative number of its block.
+#[derive(Clone, Copy, PartialEq, Eq)]
+enum Call {
+    Repair,
+    Create,
+    Append(usize),
+    Destroy,
+}
+
+impl fmt::Display for Call {
+    fn fmt<W: fmt::Write>(&self, f: &mut fmt::Formatter<W>) -> fmt::Result {
+        match self {
+            Call::Repair => f.write_str("repair"),
+            Call::Create => f.write_str("create"),
+            Call::Append(r) => write!(f, "append {r}"),
+            Call::Destroy => f.write_str("destroy"),
+        }
+    }
+}
+
+impl Call {
+    // Makes the call, and no more stores than the limit.
+    fn run(self, img: &mut Image, limit: usize) -> Answer {
+        match self {
+            Call::Repair => repair::repair(img, DRIVE, START, limit),
+            Call::Create => change::create(img, DRIVE, START, KIND, limit),
+            Call::Append(r) => write::write(img, DRIVE, START, FILE, r, &[7; 512], limit),
+            Call::Destroy => destroy::destroy(img, DRIVE, START, FILE, limit),
+        }
+    }
+
+    // The image after the call under a limit.
+    fn after(self, mut img: Image, limit: usize) -> Image {
+        self.run(&mut img, limit);
+        img
+    }
+
+    // The record that the call's store k changes, if there is such a store.
+    fn store(self, img: Image, k: usize) -> Option<usize>
+        requires { k < 8 }
+    {
+        let before = self.after(img, k);
+        let behind = self.after(img, k + 1);
+        let byte = before.iter().zip(&behind).position(|(x, y)| x != y)?;
+        Some(byte / RECORD)
+    }
+}
+
+// An image of zero records, with the partition's start and end set in its first block.
+#[tactic(auto, using(drive::specs::Fits::lda_small))]
+fn unmade() -> Image {
+    let mut img = [0; 8 * RECORD];
+    let r = image::with_pair(image::blank(), PARTITION_START, drive::lda(DRIVE, START));
+    let r = image::with_pair(r, PARTITION_END, drive::lda(DRIVE, END));
+    image::store_at(&mut img, START, r);
     img
 }
 
-// Runs one of the calls under a limit, and answers how many stores it made.
-fn run(img: &mut [u8], call: usize, limit: usize) -> usize {
-    let block = [7u8; 512];
-    match call {
-        CREATE => change::create(img, 0, 1, 5, limit).made,
-        FIRST => write::write(img, 0, 1, 2, 0, &block, limit).made,
-        SECOND => write::write(img, 0, 1, 2, 1, &block, limit).made,
-        DESTROY => destroy::destroy(img, 0, 1, 2, limit).made,
-        _ => repair::repair(img, 0, 1, limit).made,
+// The block that a link names; 0 names none.
+fn named(b: usize) -> Option<usize> {
+    (b != 0).then_some(b)
+}
+
+// The first free block.
+fn head(img: &Image) -> Option<usize> {
+    named(drive::lda_block(DRIVE, image::pair(img, START, FREE_HEAD)))
+}
+
+// The block that block b's next link names.
+fn next(img: &Image, b: usize) -> Option<usize> {
+    if END < b {
+        return None;
     }
+    named(drive::pda_block(DRIVE, image::pair(img, b, NEXT)))
 }
 
-// The image after a call under a limit.
-fn after(img: [u8; 4224], call: usize, limit: usize) -> [u8; 4224] {
-    let mut x = img;
-    run(&mut x, call, limit);
-    x
-}
-
-// How many stores a call makes under a limit.
-fn made(img: [u8; 4224], call: usize, limit: usize) -> usize {
-    let mut x = img;
-    run(&mut x, call, limit)
-}
-
-// The block that create gives, or 0 where it is refused.
-fn given(img: [u8; 4224]) -> usize {
-    let mut x = img;
-    let outcome = change::create(&mut x, 0, 1, 5, ALL).outcome;
-    match outcome {
-        Outcome::Done(b, _, _) => b,
-        _ => 0,
+// Ends a line with the free chain, at most eight blocks of it.
+fn free(rt: &impl Print, img: &Image) -> io::Result<()> {
+    print!(rt; ", free:")?;
+    for b in iter::successors(head(img), |b| next(img, *b)).take(8) {
+        print!(rt; " {b}")?;
     }
-}
-
-// The first record in which two images differ, or 8.
-fn changed(a: &[u8; 4224], b: &[u8; 4224]) -> usize {
-    for i in 0..4224 {
-        if a[i] != b[i] {
-            return i / 528;
-        }
-    }
-    8
-}
-
-// The first free block, or 0.
-fn head(img: &[u8; 4224]) -> usize {
-    drive::lda_block(0, image::pair(img, 1, FREE_HEAD))
-}
-
-// The block that block b's next link names, or 0.
-fn next(img: &[u8; 4224], b: usize) -> usize {
-    if b < 8 {
-        drive::pda_block(0, image::pair(img, b, NEXT))
-    } else {
-        0
-    }
-}
-
-// Writes a number behind a space.
-fn number(rt: &impl Print, x: usize) -> io::Result<()> {
-    print!(rt; " {x}")
-}
-
-// Ends a line.
-fn end(rt: &impl Print) -> io::Result<()> {
     println!(rt)
 }
 
-// Writes the free chain, at most eight blocks of it.
-fn chain(rt: &impl Print, img: &[u8; 4224]) -> io::Result<()> {
-    print!(rt; ", free:")?;
-    let mut b = head(img);
-    for _ in 0usize..8 {
-        if b < 1 {
-            break;
-        }
-        number(rt, b)?;
-        b = next(img, b);
+// Writes a line for a call: the block that create gives, the stores, and the free chain behind it. Answers the image behind it.
+fn line(rt: &impl Print, img: Image, call: Call) -> io::Result<Image> {
+    let mut x = img;
+    let Answer { made, outcome } = call.run(&mut x, ALL);
+    print!(rt; "{call}")?;
+    if let (Call::Create, Ok(Some((b, _, _)))) = (call, outcome) {
+        print!(rt; " gives {b}")?;
     }
-    Ok(())
-}
-
-// Writes the block that a call's store k is made to, or nothing where it has no such store.
-fn store(rt: &impl Print, img: [u8; 4224], call: usize, k: usize) -> io::Result<()>
-    requires { k < 8 }
-{
-    if k < made(img, call, k + 1) {
-        let a = after(img, call, k);
-        let b = after(img, call, k + 1);
-        number(rt, changed(&a, &b))?;
+    print!(rt; " makes {made} stores:")?;
+    for b in (0..8).filter_map(|k| call.store(img, k)) {
+        print!(rt; " {b}")?;
     }
-    Ok(())
-}
-
-// Writes how many stores a call makes, and the block of each.
-fn stores(rt: &impl Print, img: [u8; 4224], call: usize) -> io::Result<()> {
-    print!(rt; " makes")?;
-    number(rt, made(img, call, ALL))?;
-    print!(rt; " stores:")?;
-    for k in 0..8 {
-        store(rt, img, call, k)?;
-    }
-    Ok(())
-}
-
-// Writes a line for a call: its stores, and the free chain behind it. Answers the image behind it.
-fn line(rt: &impl Print, img: [u8; 4224], call: usize) -> io::Result<[u8; 4224]> {
-    let x = after(img, call, ALL);
-    stores(rt, img, call)?;
-    chain(rt, &x)?;
-    end(rt)?;
+    free(rt, &x)?;
     Ok(x)
 }
 
-// Writes a line for the second append cut after k stores and repaired: the last block of the file, and the free chain.
-fn cut(rt: &impl Print, img: [u8; 4224], k: usize) -> io::Result<()> {
-    let x = after(after(img, SECOND, k), REPAIR, ALL);
-    print!(rt; "append 1 cut after")?;
-    number(rt, k)?;
-    print!(rt; " stores: L =")?;
-    number(rt, image::word(&x, 2, LAST_BLOCK))?;
-    chain(rt, &x)?;
-    end(rt)
-}
-
-// Writes a line for each cut of the second append.
-fn cuts(rt: &impl Print, img: [u8; 4224]) -> io::Result<()> {
+// Writes a line for each cut of the second append, repaired: the last block of the file, and the free chain.
+fn cuts(rt: &impl Print, img: Image) -> io::Result<()> {
+    let call = Call::Append(1);
     for k in 0..6 {
-        cut(rt, img, k)?;
+        let x = Call::Repair.after(call.after(img, k), ALL);
+        let last = image::word(&x, FILE, LAST_BLOCK);
+        print!(rt; "{call} cut after {k} stores: L = {last}")?;
+        free(rt, &x)?;
     }
     Ok(())
 }
 
 fn main(rt: HostRuntime) -> io::Result<()> {
-    print!(rt; "repair")?;
-    let fresh = line(&rt, unmade(), REPAIR)?;
-    print!(rt; "create gives")?;
-    number(&rt, given(fresh))?;
-    let empty = line(&rt, fresh, CREATE)?;
-    print!(rt; "append 0")?;
-    let one = line(&rt, empty, FIRST)?;
+    let fresh = line(&rt, unmade(), Call::Repair)?;
+    let empty = line(&rt, fresh, Call::Create)?;
+    let one = line(&rt, empty, Call::Append(0))?;
     cuts(&rt, one)?;
-    print!(rt; "append 1")?;
-    let two = line(&rt, one, SECOND)?;
-    print!(rt; "destroy")?;
-    line(&rt, two, DESTROY)?;
+    let two = line(&rt, one, Call::Append(1))?;
+    line(&rt, two, Call::Destroy)?;
     Ok(())
 }

@@ -59,44 +59,46 @@ module _ (π : Partition) (v : View) (f r : ℕ) (dat : Rec) where
 pub left_is : (π : Partition) (v : View) (i m b : ℕ) → b ≡ free_at π v i → i ≤ m → m ≤ i → b ≡ free_at π v m
 left_is π v i m b h p q = h ∙ ap (free_at π v) (let z : i ≡ m = omega arith in z)
 
-module _ {π : Partition} {l : List ℕ} (o : Opens π l) (f n m r : ℕ) (hm : m ≡ needs π (view l) f n) (hr : r ≡ room π (view l)) where
+-- of what append_open asks of the file f, and with m as it is told
+module _ {π : Partition} {l : List ℕ} (f : ℕ) {n m r : ℕ}
+    (asked : (Opens π l) × (candidate π (view l) f ≡ true) × (n ≡ len (view l) f) × (n < reach))
+    (some : 1 ≤ m) (m_is : m ≡ needs π (view l) f n) (hr : r ≡ room π (view l)) where
   pub append_few : (dat : Rec) → r ≤ m → append_in π (view l) f n dat ≡ refuse Full
   unfolding append_in
-  append_few dat h = rw (append_in, le-leb (room π (view l)) (needs π (view l) f n) (omega arith))
+  append_few dat h = rw (append_in, le-leb (room π (view l)) (needs π (view l) f n) (omega (arith, m_is)))
 
   pub append_is : (dat : Rec) → m < r → append_in π (view l) f n dat ≡ finish 0 (write_plan π (view l) f n dat)
   unfolding append_in
-  append_is dat h = rw (append_in, lt-leb (room π (view l)) (needs π (view l) f n) (omega arith))
+  append_is dat h = rw (append_in, lt-leb (room π (view l)) (needs π (view l) f n) (omega (arith, m_is)))
 
   -- a is the first free block, q the next and d the one behind it
-  module _ (some : 1 ≤ m) (enough : m < r) (a q : ℕ) (ha : a ≡ free_head π (view l)) (hq : q ≡ pda_block π.drive (pair (view l) a next_at)) where
+  module _ (enough : m < r) {a q : ℕ} (ha : a ≡ free_head π (view l)) (hq : q ≡ pda_block π.drive (pair (view l) a next_at)) where
     second : q ≡ free_at π (view l) 1
     second = free_next π (view l) 0 a q (free_first π (view l) a ha) hq
 
     pub block_second : Block l q
-    block_second = block_free_at o 1 q second (omega arith)
+    block_second = block_free_at asked.0 1 q second (omega arith)
 
-    module _ (d : ℕ) (hd : d ≡ pda_block π.drive (pair (view l) q next_at)) where
+    module _ {d : ℕ} (hd : d ≡ pda_block π.drive (pair (view l) q next_at)) where
       third : d ≡ free_at π (view l) 2
       third = free_next π (view l) 1 q d second hd
 
       pub leaves : m ≤ 3 → (1 ≤ m) × (m ≤ 3) × (q ≡ free_at π (view l) 1) × (d ≡ free_at π (view l) 2) × (2 < m → Block l d)
-      leaves few = (some, few, second, third, λ h. block_free_at o 2 d third (omega arith))
+      leaves few = (some, few, second, third, λ h. block_free_at asked.0 2 d third (omega arith))
 
-      pub appends : (g : ℕ) → candidate π (view l) f ≡ true → n ≡ len (view l) f → n < reach → g ≡ free_at π (view l) m
-          → Appends (record { p = π; f = f; n = n; m = m; a = a; q = q; d = d; g = g }) l
-      appends g c hn far hg = record {
-        opened = file_opened o f c;
-        next = hn;
-        far = far;
-        many = hm;
+      pub appends : {g : ℕ} → g ≡ free_at π (view l) m → Appends (record { p = π; f = f; n = n; m = m; a = a; q = q; d = d; g = g }) l
+      appends {g} hg = record {
+        opened = file_opened asked.0 f asked.1;
+        next = asked.2;
+        far = asked.3;
+        many = m_is;
         first = free_first π (view l) a ha;
         second = second;
         third = third;
         after = hg;
-        room = λ i h. block_free_at o i _ refl (omega arith);
-        s_in = block_pib o;
-        f_in = block_fib o f c;
-        a_in = rw ha (block_head o);
-        g_in = block_free_at o m g hg (omega arith);
+        room = λ i h. block_free_at asked.0 i _ refl (omega arith);
+        s_in = block_pib asked.0;
+        f_in = block_fib asked.0 f asked.1;
+        a_in = rw ha (block_head asked.0);
+        g_in = block_free_at asked.0 m g hg (omega arith);
       }

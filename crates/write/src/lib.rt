@@ -1,7 +1,7 @@
 // The changing call write: a block that is there is replaced, and the block behind the last is appended.
 #![tactic(auto)]
 
-ghost use Rattle.std.specs.Prelude.{◌≡◌, true, ◌≤◌, ◌<◌, length};
+ghost use Rattle.std.specs.Prelude.{◌≡◌, true, ◌≤◌, ◌<◌};
 ghost use Rattle.image.specs.Image.{view};
 ghost use Rattle.image.specs.Saves.{words};
 ghost use Rattle.volume.specs.Keys.{reach};
@@ -13,8 +13,9 @@ ghost use Rattle.change.specs.Gate.{Opens};
 
 use append::Append;
 use base::Refusal;
-use inspect::REACH;
-use volume::{Answer, Lent, Part, Partition};
+use change::Sound;
+use inspect::{File, REACH, Volume};
+use volume::{Answer, Lent, Partition, Unfit};
 
 // The first free block once m are taken, one to three, of which q is the second and d the third.
 fn left(img: &[u8], p: Partition, m: usize, q: usize, d: usize) -> usize
@@ -37,17 +38,20 @@ fn append_open(
     p: Partition,
     f: usize,
     n: usize,
-    block: &[u8],
+    block: &[u8; 512],
     limit: usize,
 ) -> Answer
-    requires { (Opens p img.old) × (candidate p (view img.old) f ≡ true) × (n ≡ len (view img.old) f) × (n < reach) × (length block.now ≡ 512) }
+    requires { (Opens p img.old) × (candidate p (view img.old) f ≡ true) × (n ≡ len (view img.old) f) × (n < reach) }
     ensures { Answered limit (append_in p (view img.old) f n (words block.now)) img.old img.new result }
 {
+    let sound = Sound {
+        volume: Volume { img, p },
+    };
     let m = append::place::needs(n);
-    if change::free::room(img, p) <= m {
-        return change::refused(Refusal::Full);
+    if sound.room() <= m {
+        return Answer::refused(Refusal::Full);
     }
-    let a = change::free::head(img, p);
+    let a = sound.head();
     let q = change::free::next(img, p.drive, a);
     let d = change::free::next(img, p.drive, q);
     let g = left(img, p, m, q, d);
@@ -62,7 +66,7 @@ fn append_open(
         g,
     };
     let made = append::append_store(img, w, block, limit);
-    change::done(0, made)
+    Answer::done(0, made)
 }
 
 // Replace block r of the file f in a sound partition.
@@ -71,14 +75,16 @@ fn replace_open(
     p: Partition,
     f: usize,
     r: usize,
-    block: &[u8],
+    block: &[u8; 512],
     limit: usize,
 ) -> Answer
-    requires { (Opens p img.old) × (candidate p (view img.old) f ≡ true) × (r < reach) × (r < len (view img.old) f) × (length block.now ≡ 512) }
+    requires { (Opens p img.old) × (candidate p (view img.old) f ≡ true) × (r < reach) × (r < len (view img.old) f) }
     ensures { Answered limit (write_in p (view img.old) f r (words block.now)) img.old img.new result }
 {
-    let b = inspect::name(img, p, f, r);
-    change::done(0, records::replace_store(img, b, block, limit))
+    let volume = Volume { img, p };
+    let file = File { volume, f };
+    let b = file.name(r);
+    Answer::done(0, records::replace_store(img, b, block, limit))
 }
 
 // Write in a sound partition: 6, 7, and 8 where it appends.
@@ -87,36 +93,38 @@ fn write_open(
     p: Partition,
     f: usize,
     r: usize,
-    block: &[u8],
+    block: &[u8; 512],
     limit: usize,
 ) -> Answer
-    requires { (Opens p img.old) × (length block.now ≡ 512) }
+    requires { Opens p img.old }
     ensures { Answered limit (write_in p (view img.old) f r (words block.now)) img.old img.new result }
 {
-    if !inspect::candidate(img, p, f) {
-        return change::refused(Refusal::NoCandidate);
+    let volume = Volume { img, p };
+    if !volume.candidate(f) {
+        return Answer::refused(Refusal::NoCandidate);
     }
     if REACH <= r {
-        return change::refused(Refusal::BadBlock);
+        return Answer::refused(Refusal::BadBlock);
     }
     let n = inspect::len(img, f);
     if r < n {
         return replace_open(img, p, f, r, block, limit);
     }
     if n < r {
-        return change::refused(Refusal::BadBlock);
+        return Answer::refused(Refusal::BadBlock);
     }
     append_open(img, p, f, n, block, limit)
 }
 
 // The block that write is lent: 3.
+#[tactic(auto, unfolding(volume::specs::Calls::lent_block))]
 fn lent(block: &[u8]) -> Lent
     ensures { result ≡ lent_block block.now }
 {
     if block.len() == 512 {
-        Lent::Fine
+        Ok(())
     } else {
-        Lent::WrongLength
+        Err(Unfit::Length)
     }
 }
 
@@ -132,9 +140,11 @@ pub fn write(
 ) -> Answer
     ensures { Answered limit (planned drive img.old s (write f r block.now)) img.old img.new result }
 {
-    let g = change::enter(img, drive, s, lent(block));
-    match g {
-        Part::Good(e) => write_open(img, Partition { drive, s, e }, f, r, block, limit),
-        Part::Refused(why) => change::refused(why),
+    match change::enter(img, drive, s, lent(block)) {
+        Ok(e) => {
+            let block = block.as_array().unwrap();
+            write_open(img, Partition { drive, s, e }, f, r, block, limit)
+        }
+        Err(why) => Answer::refused(why),
     }
 }

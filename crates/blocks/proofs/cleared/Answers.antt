@@ -1,13 +1,6 @@
-use mathlib.Core.Path.{refl}
-use native.Mathlib.Omega.{arith}
-use Rattle.blocks.specs.Records.{clear_starts, clear_next, clear_end}
+use Rattle.std.proofs.Common.{rules}
+use Rattle.blocks.specs.Records.{filled_with}
 use Rattle.blocks.proofs.cleared.Goals as goal
 
-pub loop-i-init : goal.loop-i-init
-loop-i-init c = (omega arith, clear_starts _ _ (omega arith))
-
-pub loop-i-preserved : goal.loop-i-preserved
-loop-i-preserved c = (omega arith, clear_next c.loop-i.invariant.1 (omega arith) (omega arith))
-
 pub returns : goal.returns
-returns c = clear_end _ c.loop-i.invariant.1 refl (omega arith)
+returns c = filled_with c.args.r c.args.w (search rules) c.requires (c.fill.ensures.after (λ y h. search rules)) (search rules)

@@ -3,9 +3,6 @@ use Rattle.volume.specs.Plans.{trimmed}
 use Rattle.blocks.specs.Records.{shaped_pointer, shaped_other}
 use Rattle.blocks.proofs.content.Goals as goal
 
-pub trimmed-requires : goal.trimmed-requires
-trimmed-requires c = (c.requires.1, c.if-k-lt-HOME.true)
-
 pub returns-then-k-lt-HOME : goal.returns-then-k-lt-HOME
 returns-then-k-lt-HOME c = c.trimmed.ensures ∙ ap (trimmed _ _) c.record-x.ensures ∙ shaped_pointer _ _ _ c.if-k-lt-HOME.true
 

@@ -1,16 +1,16 @@
-use mathlib.Core.Path.{sym, ap, ◌∙◌}
-use Rattle.change.specs.Gate.{enters, shut, gate_opens}
-use Rattle.volume.specs.Calls.{planned, create_in}
-use Rattle.change.proofs.Laws.{answered_not, answered_as}
+use mathlib.Core.Path.{refl}
+use native.Mathlib.Omega.{arith}
+use Rattle.volume.specs.Calls.{planned}
+use Rattle.change.proofs.Laws.{gate_passed, answered_open, answered_shut}
 use Rattle.change.proofs.create.Goals as goal
 
 pub create_open-requires : goal.create_open-requires
-create_open-requires c = ((gate_opens _ _ _ _ _ (sym c.enter-g.ensures ∙ c.in-Good.is)).0, c.wide-word.ensures.1)
+create_open-requires c = ((gate_passed c.enter.ensures refl c.in-Ok.is).0, omega (arith, c.from.ensures, c.ranges.kind.fits))
 
-pub returns-in-Good : goal.returns-in-Good
+pub returns-in-Ok : goal.returns-in-Ok
 unfolding planned
-returns-in-Good c = answered_as ((enters _ _ _ _ _ _ (sym c.enter-g.ensures ∙ c.in-Good.is)).goes ∙ ap (create_in _ _) (sym c.wide-word.ensures.0)) c.create_open.ensures
+returns-in-Ok c = answered_open _ _ _ _ c.enter.ensures refl c.in-Ok.is (rw (← c.from.ensures) c.create_open.ensures)
 
-pub returns-in-Refused : goal.returns-in-Refused
+pub returns-in-Err : goal.returns-in-Err
 unfolding planned
-returns-in-Refused c = answered_not _ (shut _ _ _ _ _ _ (sym c.enter-g.ensures ∙ c.in-Refused.is)) c.refused.ensures
+returns-in-Err c = answered_shut _ _ _ _ c.enter.ensures refl c.in-Err.is c.refused.ensures

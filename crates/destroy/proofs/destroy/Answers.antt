@@ -1,16 +1,15 @@
-use mathlib.Core.Path.{sym, ◌∙◌}
-use Rattle.change.specs.Gate.{enters, shut, gate_opens}
+use mathlib.Core.Path.{refl}
 use Rattle.volume.specs.Calls.{planned}
-use Rattle.change.proofs.Laws.{answered_not, answered_as}
+use Rattle.change.proofs.Laws.{gate_passed, answered_open, answered_shut}
 use Rattle.destroy.proofs.destroy.Goals as goal
 
 pub destroy_open-requires : goal.destroy_open-requires
-destroy_open-requires c = (gate_opens _ _ _ _ _ (sym c.enter-g.ensures ∙ c.in-Good.is)).0
+destroy_open-requires c = (gate_passed c.enter.ensures refl c.in-Ok.is).0
 
-pub returns-in-Good : goal.returns-in-Good
+pub returns-in-Ok : goal.returns-in-Ok
 unfolding planned
-returns-in-Good c = answered_as (enters _ _ _ _ _ _ (sym c.enter-g.ensures ∙ c.in-Good.is)).goes c.destroy_open.ensures
+returns-in-Ok c = answered_open _ _ _ _ c.enter.ensures refl c.in-Ok.is c.destroy_open.ensures
 
-pub returns-in-Refused : goal.returns-in-Refused
+pub returns-in-Err : goal.returns-in-Err
 unfolding planned
-returns-in-Refused c = answered_not _ (shut _ _ _ _ _ _ (sym c.enter-g.ensures ∙ c.in-Refused.is)) c.refused.ensures
+returns-in-Err c = answered_shut _ _ _ _ c.enter.ensures refl c.in-Err.is c.refused.ensures

@@ -7,4 +7,4 @@ pub returns-then-drive-lt3 : goal.returns-then-drive-lt3
 returns-then-drive-lt3 c = (sym (hard_id_block _ _ c.if-drive-lt3.true), omega arith)
 
 pub returns-else-drive-lt3 : goal.returns-else-drive-lt3
-returns-else-drive-lt3 c = (c.less.ensures ∙ sym (soft_id_block _ _ c.if-drive-lt3.false), omega (arith, c.less.ensures))
+returns-else-drive-lt3 c = (c.saturating_sub.ensures ∙ sym (soft_id_block _ _ c.if-drive-lt3.false), omega (arith, c.saturating_sub.ensures))

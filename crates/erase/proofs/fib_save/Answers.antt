@@ -8,4 +8,4 @@ returns-then-alone c = stands (rw (fib_gone, c.if-alone.true, c.saved.ensures.0,
 
 pub returns : goal.returns
 unfolding fib_gone
-returns c = stands (rw (fib_gone, c.if-alone.false, c.saved-2.ensures.0, c.with_pair.ensures, c.before.before.«record».ensures)) c.saved-2.ensures.1 c.requires.0
+returns c = stands (rw (fib_gone, c.if-alone.false, c.saved-2.ensures.0, c.with_pair.ensures, c.«record».ensures)) c.saved-2.ensures.1 c.requires.0

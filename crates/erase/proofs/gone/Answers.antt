@@ -3,4 +3,4 @@ use Rattle.erase.proofs.gone.Goals as goal
 
 pub returns : goal.returns
 unfolding gone
-returns c = rw (c.with_pair.ensures, c.with_word-x.ensures, c.before.before.«record».ensures)
+returns c = rw (c.with_pair.ensures, c.with_word-x.ensures, c.«record».ensures)

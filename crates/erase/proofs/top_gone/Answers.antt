@@ -3,4 +3,4 @@ use Rattle.erase.proofs.top_gone.Goals as goal
 
 pub returns : goal.returns
 unfolding top_gone gone
-returns c = rw (c.with_pair.ensures, c.gone.ensures, c.pda_of.ensures.0)
+returns c = rw (c.with_pair.ensures, c.gone.ensures, c.pda.ensures.0)

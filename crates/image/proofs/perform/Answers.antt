@@ -1,5 +1,9 @@
-use Rattle.image.proofs.Laws.{made}
+use mathlib.Core.Path.{refl}
+use Rattle.image.proofs.Laws.{not_yet, next}
 use Rattle.image.proofs.perform.Goals as goal
 
-pub returns : goal.returns
-returns c = made c.used.ensures c.five.ensures
+pub loop-s-init : goal.loop-s-init
+loop-s-init c = not_yet _ _
+
+pub loop-s-preserved : goal.loop-s-preserved
+loop-s-preserved c = next _ _ c.loop-s-test.true refl c.loop-s.invariant c.step-left.ensures

@@ -4,8 +4,5 @@ use Rattle.links.proofs.link_to.Goals as goal
 pub returns-then-k-eq0 : goal.returns-then-k-eq0
 returns-then-k-eq0 c = link_nil _ _ _ _ c.if-k-eq0.true
 
-pub spot-requires : goal.spot-requires
-spot-requires c = (c.requires.0, c.requires.1 c.if-k-eq0.false)
-
 pub returns : goal.returns
-returns c = link_is _ _ _ _ c.if-k-eq0.false c.spot.ensures.0 c.pda.ensures
+returns c = link_is _ _ _ _ c.if-k-eq0.false c.spot.ensures.0 c.pda.ensures.0

@@ -4,7 +4,7 @@ use Rattle.links.proofs.Walk.{Held, Linking}
 use Rattle.links.proofs.linked_on.Given as goal
 
 abbrev pub invariant-loop-k : goal.invariant-loop-k
-invariant-loop-k l = (Linking l.p l.img l.f l.k l.before l.b l.own) × (Held l.p (view l.img) l.f l.q l.k)
+invariant-loop-k l = (Linking l.file.volume.p l.file.volume.img.now l.file.f l.k l.before l.b l.own) × (Held l.file.volume.p (view l.file.volume.img.now) l.file.f l.q l.k)
 
 abbrev pub decreases-loop-k : goal.decreases-loop-k
 decreases-loop-k l = 292 + l.n - l.k

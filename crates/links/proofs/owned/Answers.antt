@@ -1,7 +1,6 @@
 use mathlib.Core.Path.{sym, ◌∙◌}
 use native.Mathlib.Omega.{arith}
-use borrow.Author.Tests.{eqb-true, eqb-false, not-true, not-false}
-use Rattle.inspect.proofs.Laws.{opened_len}
+use borrow.Author.Tests.{eqb-true, eqb-false}
 use Rattle.links.proofs.Laws.{opened, is_file_of, owned_nil, owned_not_file, owned_absent, owned_here, has_is, tells_equal}
 use Rattle.links.proofs.owned.Goals as goal
 
@@ -9,40 +8,30 @@ pub returns-then-x-eq0 : goal.returns-then-x-eq0
 returns-then-x-eq0 c = owned_nil _ _ _ _ c.pair-x.ensures.0 (omega (arith, c.if-x-eq0.true))
 
 pub returns-then-not-candidate : goal.returns-then-not-candidate
-returns-then-not-candidate c = owned_not_file _ _ _ _ c.pair-x.ensures.0 _ c.block_of-f.ensures.0 (sym c.candidate.ensures ∙ not-true _ c.if-not-candidate.true-raw)
+returns-then-not-candidate c = owned_not_file _ _ _ _ c.pair-x.ensures.0 _ c.block_of-f.ensures.0 (sym c.candidate.ensures ∙ c.if-not-candidate.true)
 
-pub len-n-requires : goal.len-n-requires
-len-n-requires c =
-    let pre = c.requires in
-    opened_len (opened pre.0 pre.2 _ (sym c.candidate.ensures ∙ not-false _ c.if-not-candidate.false-raw))
-
-pub has_key-requires : goal.has_key-requires
-has_key-requires c = (c.len-n.ensures.1, c.key_in-k.ensures.1)
+pub invariant_of-file : goal.invariant_of-file
+invariant_of-file c =
+    let a = c.args.clean.now in
+    record { opened = opened a.volume.lies a.unmarred _ (sym c.candidate.ensures ∙ c.if-not-candidate.false) }
 
 pub returns-then-not-has_key : goal.returns-then-not-has_key
 returns-then-not-has_key c =
-    let pre = c.requires in
-    let x = c.pair-x.ensures.0 in
-    let f = c.block_of-f.ensures.0 in
-    let k = c.key_in-k.ensures.0 in
-    let yes = sym c.candidate.ensures ∙ not-false _ c.if-not-candidate.false-raw in
-    let has = has_is (opened pre.0 pre.2 _ yes) c.len-n.ensures.0 _ c.has_key.ensures in
-    owned_absent _ _ _ _ x _ f yes _ k (has ∙ not-true _ c.if-not-has_key.true-raw)
+    let a = c.args.clean.now in
+    let yes = sym c.candidate.ensures ∙ c.if-not-candidate.false in
+    let has = has_is (opened a.volume.lies a.unmarred _ yes) c.len.ensures.0 _ c.has_key.ensures in
+    owned_absent _ _ _ _ c.pair-x.ensures.0 _ c.block_of-f.ensures.0 yes _ c.key_in-k.ensures.0 (has ∙ c.if-not-has_key.true)
 
 pub spot-requires : goal.spot-requires
 spot-requires c =
-    let pre = c.requires in
-    let yes = sym c.candidate.ensures ∙ not-false _ c.if-not-candidate.false-raw in
-    let o = opened pre.0 pre.2 _ yes in
-    (o, has_is o c.len-n.ensures.0 _ c.has_key.ensures ∙ not-false _ c.if-not-has_key.false-raw)
+    let a = c.args.clean.now in
+    let yes = sym c.candidate.ensures ∙ c.if-not-candidate.false in
+    has_is (opened a.volume.lies a.unmarred _ yes) c.len.ensures.0 _ c.has_key.ensures ∙ c.if-not-has_key.false
 
 pub returns : goal.returns
 returns c =
-    let pre = c.requires in
-    let x = c.pair-x.ensures.0 in
-    let f = c.block_of-f.ensures.0 in
-    let k = c.key_in-k.ensures.0 in
-    let yes = sym c.candidate.ensures ∙ not-false _ c.if-not-candidate.false-raw in
-    let has = has_is (opened pre.0 pre.2 _ yes) c.len-n.ensures.0 _ c.has_key.ensures ∙ not-false _ c.if-not-has_key.false-raw in
+    let a = c.args.clean.now in
+    let yes = sym c.candidate.ensures ∙ c.if-not-candidate.false in
+    let has = has_is (opened a.volume.lies a.unmarred _ yes) c.len.ensures.0 _ c.has_key.ensures ∙ c.if-not-has_key.false in
     tells_equal _ c.spot.result c.args.b (λ h. omega (arith, eqb-true)) (λ h z. omega (arith, eqb-false))
-    ∙ owned_here _ _ _ _ x _ f yes _ k (is_file_of _ _ pre.2 _ yes) has c.spot.ensures.0
+    ∙ owned_here _ _ _ _ c.pair-x.ensures.0 _ c.block_of-f.ensures.0 yes _ c.key_in-k.ensures.0 (is_file_of _ _ a.unmarred _ yes) has c.spot.ensures.0

@@ -1,15 +1,10 @@
-use native.Mathlib.Omega.{arith}
-use Rattle.links.proofs.Walk.{tail_starts, tail_fails, tail_next, tail_end}
+use Rattle.std.proofs.Common.{rules, tests}
+use Rattle.image.specs.Image.{view}
+use Rattle.base.proofs.Chains.{all_from}
+use Rattle.links.proofs.Walk.{tail_asked, tail_rest}
 use Rattle.links.proofs.tail_good.Goals as goal
 
-pub loop-i-init : goal.loop-i-init
-loop-i-init c = tail_starts c.requires.2 c.entries_of-used.ensures.0 c.entries_of-used.ensures.1
-
-pub returns-then-pair-gt0 : goal.returns-then-pair-gt0
-returns-then-pair-gt0 c = tail_fails c.loop-i.invariant (omega arith) c.pair.ensures.0 (λ z. omega (arith, c.if-pair-gt0.true))
-
-pub loop-i-preserved : goal.loop-i-preserved
-loop-i-preserved c = tail_next c.loop-i.invariant (omega arith) c.pair.ensures.0 (omega (arith, c.if-pair-gt0.false))
-
 pub returns : goal.returns
-returns c = tail_end c.loop-i.invariant (omega arith)
+returns c =
+    let a = c.args in let v = view a.img.now in let e = c.entries_of.ensures in let l = c.requires.2 in
+    all_from _ _ _ _ _ _ c.all.ensures.ran (tail_asked v a.n a.k a.q l e.0 e.1) (tail_rest v a.n a.k a.q l e.0 e.1) (λ x b q k. search (rules, tests))

@@ -1,42 +1,33 @@
-use mathlib.Core.Path.{◌≡◌}
-use native.Mathlib.Omega.{arith}
-use lib.Dec.{ltb}
+use Rattle.std.specs.Prelude.{◌≡◌, refl, Bool, true, false, ℕ, ◌-◌, max, ltb}
+use Rattle.std.proofs.Common.{◌∙◌, arith, rules, tests, ltb-true}
+use Rattle.std.proofs.lemmas.Bool.{ltb-false}
 use Rattle.base.specs.Tests.{pick}
+use Rattle.base.proofs.Chains.{find_from}
+use Rattle.image.specs.Image.{view}
+use Rattle.volume.specs.Files.{is_file}
 use Rattle.volume.specs.Answers.{file_above}
-use Rattle.volume.proofs.Steps.{search_starts_as, searches, lowest_nothing}
+use Rattle.volume.proofs.Steps.{lowest_nothing}
+use Rattle.inspect.proofs.Ways.{find_lowest}
 use Rattle.listing.proofs.file_above.Goals as goal
 
-pub returns-then-p-a : goal.returns-then-p-a
+larger : (a b : ℕ) → max a b ≡ pick (ltb a b) b a
+larger a b = go (ltb a b) refl
+  where
+    go : (t : Bool) → ltb a b ≡ t → max a b ≡ pick t b a
+    go true q = omega (arith, ltb-true a b q)
+    go false q = omega (arith, ltb-false a b q)
+
+pub returns-then-volume-a : goal.returns-then-volume-a
 unfolding file_above
-returns-then-p-a c = let a = c.args in let q : c.most-a.result ≡ pick (ltb a.b a.p.s) a.p.s a.b = c.most-a.ensures in rw (← q) (lowest_nothing _ _ _ (omega arith))
-
-pub loop-f-init : goal.loop-f-init
-unfolding file_above
-loop-f-init c = let a = c.args in let q : c.most-a.result ≡ pick (ltb a.b a.p.s) a.p.s a.b = c.most-a.ensures in rw (← q) (search_starts_as _ _ _ _ (omega arith))
-
-pub most-a-requires : goal.most-a-requires
-most-a-requires c = search searches
-
-pub overflow_add-end : goal.overflow_add-end
-overflow_add-end c = search searches
-
-pub overflow_step-f : goal.overflow_step-f
-overflow_step-f c = search searches
-
-pub is_file-requires : goal.is_file-requires
-is_file-requires c = search searches
-
-pub returns-then-is_file : goal.returns-then-is_file
-returns-then-is_file c = search searches
-
-pub overflow_step-f-in-loop-f : goal.overflow_step-f-in-loop-f
-overflow_step-f-in-loop-f c = search searches
-
-pub loop-f-smaller : goal.loop-f-smaller
-loop-f-smaller c = search searches
-
-pub loop-f-preserved : goal.loop-f-preserved
-loop-f-preserved c = search searches
+returns-then-volume-a c =
+    let π = c.args.volume.now.p in
+    let q : c.max-a.result ≡ pick (ltb c.args.b π.s) π.s c.args.b = c.max-a.ensures ∙ larger _ _ in
+    rw (← q) (lowest_nothing _ _ _ (omega arith))
 
 pub returns : goal.returns
-returns c = search searches
+unfolding file_above
+returns c =
+    let π = c.args.volume.now.p in
+    let q : c.max-a.result ≡ pick (ltb c.args.b π.s) π.s c.args.b = c.max-a.ensures ∙ larger _ _ in
+    rw (← q)
+    (find_from (is_file π (view c.args.volume.now.img.now)) _ _ _ _ c.find.ensures.ran (λ x b q k. search (rules, tests)) {n = π.e - c.max-a.result} (omega arith) ∙ find_lowest _ _ _)

@@ -4,13 +4,13 @@ use Rattle.drive.specs.Fits.{Fits}
 use Rattle.perq.proofs.converted.Goals as goal
 
 pub came_to-requires : goal.came_to-requires
-came_to-requires c = (omega arith, subst Fits c.in-Number.is c.requires, omega arith, omega arith)
+came_to-requires c = (omega arith, subst Fits c.in-Ok.is c.requires, omega arith, omega arith)
 
 pub refused-requires : goal.refused-requires
-refused-requires c = (subst Fits c.in-Refused.is c.requires, omega arith, omega arith)
+refused-requires c = (subst Fits c.in-Err.is c.requires, omega arith, omega arith)
 
-pub returns-in-Number : goal.returns-in-Number
-returns-in-Number c = rw c.in-Number.is c.came_to.ensures
+pub returns-in-Ok : goal.returns-in-Ok
+returns-in-Ok c = rw c.in-Ok.is c.came_to.ensures
 
-pub returns-in-Refused : goal.returns-in-Refused
-returns-in-Refused c = rw c.in-Refused.is c.refused.ensures
+pub returns-in-Err : goal.returns-in-Err
+returns-in-Err c = rw c.in-Err.is c.refused.ensures

@@ -1,19 +1,23 @@
-use mathlib.Core.Path.{subst}
+use mathlib.Core.Path.{ap, subst, ◌∙◌}
 use native.Mathlib.Omega.{arith}
+use Rattle.std.specs.Prelude.{Ok}
 use Rattle.perq.specs.Fits.{OutcomeFits}
 use Rattle.perq.proofs.flat.Goals as goal
 
 pub came_to-requires : goal.came_to-requires
-came_to-requires c = let h = subst OutcomeFits c.in-Done.is c.requires.1 in (c.requires.0, h.0, h.1, h.2)
+came_to-requires c =
+    let q = c.in-Ok-Some.is ∙ ap Ok (rw c.in-Ok-Some.is at c.in-Ok-Some.field-0-is) in
+    let h = subst OutcomeFits q c.requires.1 in
+    (c.requires.0, h.0, h.1, h.2)
 
 pub refused-requires : goal.refused-requires
-refused-requires c = (subst OutcomeFits c.in-Refused.is c.requires.1, c.requires.0, omega arith)
+refused-requires c = (subst OutcomeFits c.in-Err.is c.requires.1, c.requires.0, omega arith)
 
-pub returns-in-Done : goal.returns-in-Done
-returns-in-Done c = rw c.in-Done.is c.came_to.ensures
+pub returns-in-Ok-Some : goal.returns-in-Ok-Some
+returns-in-Ok-Some c = rw (c.in-Ok-Some.is ∙ ap Ok (rw c.in-Ok-Some.is at c.in-Ok-Some.field-0-is)) c.came_to.ensures
 
-pub returns-in-Absent : goal.returns-in-Absent
-returns-in-Absent c = rw c.in-Absent.is c.came_to-in-Absent.ensures
+pub returns-in-Ok-None : goal.returns-in-Ok-None
+returns-in-Ok-None c = rw (c.in-Ok-None.is ∙ ap Ok (rw c.in-Ok-None.is at c.in-Ok-None.field-0-is)) c.came_to-in-Ok-None.ensures
 
-pub returns-in-Refused : goal.returns-in-Refused
-returns-in-Refused c = rw c.in-Refused.is c.refused.ensures
+pub returns-in-Err : goal.returns-in-Err
+returns-in-Err c = rw c.in-Err.is c.refused.ensures

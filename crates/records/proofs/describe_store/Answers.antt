@@ -4,4 +4,4 @@ use Rattle.records.proofs.describe_store.Goals as goal
 
 pub returns : goal.returns
 unfolding stores described
-returns c = rw (c.none-z.ensures.0, c.saved-fib.ensures.0, c.with_text.ensures, c.before.before.before.before.before.before.before.«record».ensures) at c.perform.ensures
+returns c = rw (c.saved-fib.ensures.0, c.with_text.ensures, c.«record».ensures) at c.perform.ensures

@@ -4,4 +4,4 @@ use Rattle.records.proofs.replace_store.Goals as goal
 
 pub returns : goal.returns
 unfolding stores replaced
-returns c = rw (c.none-z.ensures.0, c.saved-data.ensures.0, c.with_data.ensures, c.before.before.before.before.before.before.before.«record».ensures) at c.perform.ensures
+returns c = rw (c.saved-data.ensures.0, c.with_data.ensures, c.«record».ensures) at c.perform.ensures

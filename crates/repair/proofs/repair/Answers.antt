@@ -3,17 +3,17 @@ use Rattle.repair.specs.Answer.{answered_not, refused_part, refused_malformed, p
 use Rattle.volume.proofs.Readings.{lies}
 use Rattle.repair.proofs.repair.Goals as goal
 
-pub lowest_malformed-x-requires : goal.lowest_malformed-x-requires
-lowest_malformed-x-requires c = lies _ _ _ _ (sym c.partition-q.ensures ∙ c.in-Good.is)
+pub invariant_of-volume : goal.invariant_of-volume
+invariant_of-volume c = record { lies = lies _ _ _ _ (sym c.partition.ensures ∙ c.in-Ok.is) }
 
 pub repair_in-requires : goal.repair_in-requires
-repair_in-requires c = record { lies = lies _ _ _ _ (sym c.partition-q.ensures ∙ c.in-Good.is); none = sym c.lowest_malformed-x.ensures ∙ c.in-Nothing.is }
+repair_in-requires c = record { lies = lies _ _ _ _ (sym c.partition.ensures ∙ c.in-Ok.is); none = sym c.lowest_malformed.ensures ∙ c.in-None.is }
 
-pub returns-in-Refused : goal.returns-in-Refused
-returns-in-Refused c = answered_not _ (refused_part _ _ _ _ (sym c.partition-q.ensures ∙ c.in-Refused.is)) c.refused.ensures
+pub returns-in-Err : goal.returns-in-Err
+returns-in-Err c = answered_not _ (refused_part _ _ _ _ (sym c.partition.ensures ∙ c.in-Err.is)) c.refused.ensures
 
-pub returns-in-At : goal.returns-in-At
-returns-in-At c = answered_not _ (refused_malformed _ _ _ _ (sym c.partition-q.ensures ∙ c.in-Good.is) _ (sym c.lowest_malformed-x.ensures ∙ c.in-At.is)) c.refused-in-At.ensures
+pub returns-in-Some : goal.returns-in-Some
+returns-in-Some c = answered_not _ (refused_malformed _ _ _ _ (sym c.partition.ensures ∙ c.in-Ok.is) _ (sym c.lowest_malformed.ensures ∙ c.in-Some.is)) c.refused-in-Some.ensures
 
-pub returns-in-Nothing : goal.returns-in-Nothing
-returns-in-Nothing c = rw (planned_in _ _ _ _ (sym c.partition-q.ensures ∙ c.in-Good.is) (sym c.lowest_malformed-x.ensures ∙ c.in-Nothing.is)) c.repair_in.ensures
+pub returns-in-None : goal.returns-in-None
+returns-in-None c = rw (planned_in _ _ _ _ (sym c.partition.ensures ∙ c.in-Ok.is) (sym c.lowest_malformed.ensures ∙ c.in-None.is)) c.repair_in.ensures

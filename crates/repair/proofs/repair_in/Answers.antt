@@ -28,4 +28,4 @@ returns c =
     let some = c.if-first-lt1.false in
     let q = c.unowned_from-first.ensures ∙ from_start _ _ in
     let pib = mend_pib m _ q c.pib-x.ensures in
-    answered_done _ (some_free _ _ _ q some) c.used.ensures (mend_end m pib (rw c.saved.ensures.0 at c.step-left.ensures))
+    answered_done _ (some_free _ _ _ q some) c.saturating_sub.ensures (mend_end m pib (rw c.saved.ensures.0 at c.step-left.ensures))

@@ -1,20 +1,11 @@
-use mathlib.Core.Path.{sym, ap, ◌∙◌}
-use mathlib.Core.Bool.{not}
-use native.Mathlib.Omega.{arith}
-use Rattle.blocks.specs.Standing.{seek_starts, seek_hit, seek_next, seek_end}
+use Rattle.std.proofs.Common.{◌∙◌, ap, arith, rules, tests}
+use Rattle.std.specs.Prelude.{unwrap_or}
+use Rattle.image.specs.Image.{view}
+use Rattle.base.proofs.Chains.{find_from, find_those}
+use Rattle.repair.specs.Mending.{is_free}
 use Rattle.repair.proofs.unowned_from.Goals as goal
 
-pub loop-b-init : goal.loop-b-init
-loop-b-init c = seek_starts
-
-pub owned-requires : goal.owned-requires
-owned-requires c = (c.requires.lies, omega arith, c.requires.none)
-
-pub returns-then-not-owned : goal.returns-then-not-owned
-returns-then-not-owned c = seek_hit c.loop-b.invariant (omega arith) (sym (ap not c.owned.ensures) ∙ c.if-not-owned.true-raw)
-
-pub loop-b-preserved : goal.loop-b-preserved
-loop-b-preserved c = seek_next c.loop-b.invariant (omega arith) (sym (ap not c.owned.ensures) ∙ c.if-not-owned.false-raw)
-
 pub returns : goal.returns
-returns c = seek_end c.loop-b.invariant (omega arith)
+returns c =
+    let p = is_free c.args.clean.now.volume.p (view c.args.clean.now.volume.img.now) in
+    c.unwrap_or.ensures ∙ ap (λ r. unwrap_or r 0) (find_from p _ _ _ _ c.find.ensures.ran (λ x b q k. search (rules, tests)) (omega arith)) ∙ find_those p 0 _ _

@@ -2,10 +2,13 @@ use Rattle.verify.proofs.Surveys.{linked_sums, faulty_test, good_unmarred, sound
 use Rattle.verify.proofs.is_sound.Goals as goal
 
 pub free_good-requires : goal.free_good-requires
-free_good-requires c = let p = linked_sums _ _ _ _ c.surveyed-x.ensures c.in-Linked.is in (c.requires, good_unmarred _ _ p.good, p.blocks)
+free_good-requires c = (linked_sums _ _ _ _ c.surveyed.ensures c.in-Some.is).blocks
 
-pub returns-in-Faulty : goal.returns-in-Faulty
-returns-in-Faulty c = sound_faulty _ _ (faulty_test _ _ c.surveyed-x.ensures c.in-Faulty.is)
+pub invariant_of-free_good : goal.invariant_of-free_good
+invariant_of-free_good c = record { unmarred = good_unmarred _ _ (linked_sums _ _ _ _ c.surveyed.ensures c.in-Some.is).good }
 
-pub returns-in-Linked : goal.returns-in-Linked
-returns-in-Linked c = sound_linked _ _ (linked_sums _ _ _ _ c.surveyed-x.ensures c.in-Linked.is).good c.free_good.ensures
+pub returns-in-None : goal.returns-in-None
+returns-in-None c = sound_faulty _ _ (faulty_test _ _ c.surveyed.ensures c.in-None.is)
+
+pub returns-in-Some : goal.returns-in-Some
+returns-in-Some c = sound_linked _ _ (linked_sums _ _ _ _ c.surveyed.ensures c.in-Some.is).good c.free_good.ensures

@@ -1,53 +1,30 @@
-use mathlib.Core.Path.{◌≡◌, sym, ◌∙◌}
-use Prim.Native.Nat.{◌-◌}
+use mathlib.Core.Path.{sym, ◌∙◌}
 use native.Mathlib.Omega.{arith}
-use native.Mathlib.Numerals.{add-one}
-use borrow.Author.Tests.{not-true, not-false}
-use Rattle.volume.proofs.Readings.{candidate_in}
 use Rattle.verify.proofs.Surveys.{pass_starts, pass_other, pass_file, pass_faulty, pass_ends, file_short}
 use Rattle.verify.proofs.surveyed.Goals as goal
 
-pub overflow_sub-m : goal.overflow_sub-m
-overflow_sub-m c = omega (arith, c.requires.order)
+pub loop-f-init : goal.loop-f-init
+loop-f-init c = (pass_starts _ _, omega (arith, c.args.volume.now.lies.order))
 
-pub loop-i-init : goal.loop-i-init
-loop-i-init c = (pass_starts _ _, omega arith)
+pub loop-f-preserved-then-not-candidate : goal.loop-f-preserved-then-not-candidate
+loop-f-preserved-then-not-candidate c = (pass_other _ _ c.loop-f.invariant.0 (sym c.candidate.ensures ∙ c.if-not-candidate.true), omega arith)
 
-pub overflow_add-f : goal.overflow_add-f
-overflow_add-f c = omega (arith, c.requires.few)
-
-pub overflow_add-f-in-loop-i : goal.overflow_add-f-in-loop-i
-overflow_add-f-in-loop-i c = omega (arith, c.requires.few)
-
-pub candidate-requires : goal.candidate-requires
-candidate-requires c = c.requires
-
-pub loop-i-preserved-then-not-candidate : goal.loop-i-preserved-then-not-candidate
-loop-i-preserved-then-not-candidate c = (pass_other _ _ _ _ (add-one _) _ _ (sym c.candidate.ensures ∙ not-true _ c.if-not-candidate.true-raw) c.loop-i.invariant.0, omega arith)
-
-pub stands-x-requires : goal.stands-x-requires
-stands-x-requires c = (c.requires, (candidate_in _ _ _ (sym c.candidate.ensures ∙ not-false _ c.if-not-candidate.false-raw)).1)
-
-pub returns-in-Faulty : goal.returns-in-Faulty
-returns-in-Faulty c = pass_faulty _ _ _ _ (add-one _) (sym c.candidate.ensures ∙ not-false _ c.if-not-candidate.false-raw) c.stands-x.ensures c.in-Faulty.is (omega arith)
-
-pub overflow_add-files : goal.overflow_add-files
-overflow_add-files c = omega (arith, c.requires.few, c.loop-i.invariant.0.few)
+pub returns-in_err-owned : goal.returns-in_err-owned
+returns-in_err-owned c = c.from_residual.ensures ∙ pass_faulty _ _ c.loop-f.invariant.0 (sym c.candidate.ensures ∙ c.if-not-candidate.false) c.stands.ensures c.in_err-owned.was (omega arith)
 
 pub overflow_add-owned : goal.overflow_add-owned
 overflow_add-owned c =
-    let yes = sym c.candidate.ensures ∙ not-false _ c.if-not-candidate.false-raw in
+    let p = c.loop-f.invariant.0 in
     omega (
       arith,
-      c.requires.few,
-      c.loop-i.invariant.0.short,
-      file_short _ _ _ _ (add-one _) yes c.stands-x.ensures _ c.in-File.is,
+      c.args.volume.now.lies.few,
+      p.here,
+      p.short,
+      file_short _ _ p (sym c.candidate.ensures ∙ c.if-not-candidate.false) c.stands.ensures _ c.in_ok-owned.was,
     )
 
-pub loop-i-preserved : goal.loop-i-preserved
-loop-i-preserved c =
-    let yes = sym c.candidate.ensures ∙ not-false _ c.if-not-candidate.false-raw in
-    (pass_file _ _ _ _ (add-one _) yes c.stands-x.ensures _ _ _ c.in-File.is c.loop-i.invariant.0, omega arith)
+pub loop-f-preserved : goal.loop-f-preserved
+loop-f-preserved c = (pass_file _ _ c.loop-f.invariant.0 (sym c.candidate.ensures ∙ c.if-not-candidate.false) c.stands.ensures _ c.in_ok-owned.was, omega arith)
 
 pub returns : goal.returns
-returns c = pass_ends _ _ _ _ (let j : c.loop-i.i ≡ c.args.p.e - c.args.p.s = omega arith in rw (← j) c.loop-i.invariant.0)
+returns c = pass_ends _ _ c.loop-f.invariant.0 (omega arith)

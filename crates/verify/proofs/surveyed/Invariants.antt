@@ -1,10 +1,7 @@
-use Prim.Native.Nat.{◌-◌, ◌≤◌}
+use Prim.Native.Nat.{suc, ◌≤◌}
 use Rattle.image.specs.Image.{view}
 use Rattle.verify.proofs.Surveys.{Passed}
 use Rattle.verify.proofs.surveyed.Given as goal
 
-abbrev pub invariant-loop-i : goal.invariant-loop-i
-invariant-loop-i l = Passed l.p (view l.img) l.i l.files l.owned × (l.i ≤ l.m)
-
-abbrev pub decreases-loop-i : goal.decreases-loop-i
-decreases-loop-i l = l.m - l.i
+abbrev pub invariant-loop-f : goal.invariant-loop-f
+invariant-loop-f l = Passed l.volume.p (view l.volume.img.now) l.f l.files l.owned × (l.f ≤ suc l.volume.p.e)

@@ -5,7 +5,4 @@ use Rattle.verify.proofs.Free.{Walking}
 use Rattle.verify.proofs.walk_from.Given as goal
 
 abbrev pub invariant-loop-n : goal.invariant-loop-n
-invariant-loop-n l = Walking l.p (view l.img) l.most l.before l.own l.b l.n (walk l.p (view l.img) (l.p.e - l.p.s) 0 l.head 0)
-
-abbrev pub decreases-loop-n : goal.decreases-loop-n
-decreases-loop-n l = l.most - l.n
+invariant-loop-n l = Walking l.clean.volume.p (view l.clean.volume.img.now) l.most l.before l.own l.b l.n (walk l.clean.volume.p (view l.clean.volume.img.now) (l.clean.volume.p.e - l.clean.volume.p.s) 0 l.head 0)

@@ -1,18 +1,19 @@
+use Rattle.std.proofs.lemmas.Option.{MatchOption-at_some}
 use Rattle.volume.specs.Calls.{planned}
 use Rattle.volume.proofs.Readings.{fine_block}
-use Rattle.change.specs.Gate.{gate_at, gate_opens, enters, shut}
-use Rattle.change.proofs.Laws.{answered_not, answered_as}
+use Rattle.change.proofs.Laws.{gate_passed, answered_open, answered_shut}
 use Rattle.write.proofs.write.Goals as goal
 
+pub unwrap-block-requires : goal.unwrap-block-requires
+unwrap-block-requires c = c.as_array.ensures.variant.1 (fine_block _ (gate_passed c.enter.ensures c.lent.ensures c.in-Ok.is).1)
+
 pub write_open-requires : goal.write_open-requires
-write_open-requires c =
-    let i = gate_opens _ _ _ _ _ (gate_at _ _ _ c.enter-g.ensures c.lent.ensures c.in-Good.is) in
-    (i.0, fine_block _ i.1)
+write_open-requires c = (gate_passed c.enter.ensures c.lent.ensures c.in-Ok.is).0
 
-pub returns-in-Good : goal.returns-in-Good
+pub returns-in-Ok : goal.returns-in-Ok
 unfolding planned
-returns-in-Good c = answered_as (enters _ _ _ _ _ _ (gate_at _ _ _ c.enter-g.ensures c.lent.ensures c.in-Good.is)).goes c.write_open.ensures
+returns-in-Ok c = answered_open _ _ _ _ c.enter.ensures c.lent.ensures c.in-Ok.is (rw (← (MatchOption-at_some _ _ _ c.unwrap-block.ensures c.as_array.ensures.cases).same) c.write_open.ensures)
 
-pub returns-in-Refused : goal.returns-in-Refused
+pub returns-in-Err : goal.returns-in-Err
 unfolding planned
-returns-in-Refused c = answered_not _ (shut _ _ _ _ _ _ (gate_at _ _ _ c.enter-g.ensures c.lent.ensures c.in-Refused.is)) c.refused.ensures
+returns-in-Err c = answered_shut _ _ _ _ c.enter.ensures c.lent.ensures c.in-Err.is c.refused.ensures

@@ -1,35 +1,16 @@
-use Rattle.directory.specs.Entries.{sames, same_next}
+use Rattle.std.proofs.Common.{eqb, rules, tests}
+use Rattle.std.proofs.lemmas.Iterator.{YieldsList-from_slice, YieldsList-from_zip}
+use Rattle.std.proofs.lemmas.Iterator.Search.{all_from_yields_List}
+use Rattle.directory.specs.Directory.{upper}
+use Rattle.directory.specs.Entries.{same_short}
+use Rattle.directory.proofs.Laws.{same_zipped}
 use Rattle.directory.proofs.entry.same.Goals as goal
 
-pub loop-i-preserved : goal.loop-i-preserved
-loop-i-preserved c = same_next c.args.a.now c.args.b.now _ _ _ _ c.loop-i.invariant c.upper.ensures.0 c.upper-in-loop-i.ensures.0 c.if-upper.false
+pub returns-then-a-b : goal.returns-then-a-b
+returns-then-a-b c =
+    let a = c.args.a.now in let b = c.args.b.now in
+    same_zipped a b (search rules) (all_from_yields_List (λ p. eqb (upper p.0) (upper p.1)) c.all.new.self _ _ c.all.ensures.ran
+    (YieldsList-from_zip (YieldsList-from_slice a cc) (YieldsList-from_slice b cc)) (λ x b q k. search (rules, tests)))
 
-pub returns-then-n-b : goal.returns-then-n-b
-returns-then-n-b c = search sames
-
-pub loop-i-init : goal.loop-i-init
-loop-i-init c = search sames
-
-pub bounds-a-i : goal.bounds-a-i
-bounds-a-i c = search sames
-
-pub upper-requires : goal.upper-requires
-upper-requires c = search sames
-
-pub bounds-b-i : goal.bounds-b-i
-bounds-b-i c = search sames
-
-pub upper-requires-in-loop-i : goal.upper-requires-in-loop-i
-upper-requires-in-loop-i c = search sames
-
-pub returns-then-upper : goal.returns-then-upper
-returns-then-upper c = search sames
-
-pub overflow_step-i : goal.overflow_step-i
-overflow_step-i c = search sames
-
-pub loop-i-smaller : goal.loop-i-smaller
-loop-i-smaller c = search sames
-
-pub returns : goal.returns
-returns c = search sames
+pub returns-else-a-b : goal.returns-else-a-b
+returns-else-a-b c = same_short _ _ (search rules)

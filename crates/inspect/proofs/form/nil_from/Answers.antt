@@ -1,29 +1,12 @@
-use Rattle.inspect.proofs.Ways.{nils}
+use Rattle.std.proofs.Common.{◌+◌, ◌*◌, ◌-◌, bit_or, refl, rules, tests}
+use Rattle.std.proofs.lemmas.Iterator.{YieldsList-from_range}
+use Rattle.std.proofs.lemmas.Iterator.Consumers.{fold_from_yields_List}
+use Rattle.image.specs.View.{pair}
+use Rattle.image.specs.Image.{view}
+use Rattle.inspect.proofs.Ways.{nils_are}
 use Rattle.inspect.proofs.form.nil_from.Goals as goal
 
-pub loop-i-init : goal.loop-i-init
-loop-i-init c = search nils
-
-pub overflow_mul-i : goal.overflow_mul-i
-overflow_mul-i c = search nils
-
-pub overflow_add-w : goal.overflow_add-w
-overflow_add-w c = search nils
-
-pub pair-requires : goal.pair-requires
-pair-requires c = search nils
-
-pub narrow-any-requires : goal.narrow-any-requires
-narrow-any-requires c = search nils
-
-pub overflow_step-i : goal.overflow_step-i
-overflow_step-i c = search nils
-
-pub loop-i-smaller : goal.loop-i-smaller
-loop-i-smaller c = search nils
-
-pub loop-i-preserved : goal.loop-i-preserved
-loop-i-preserved c = search nils
-
 pub returns : goal.returns
-returns c = search nils
+returns c =
+    let a = c.args in let v = view a.img.now in
+    nils_are v a.f a.w a.k a.n (fold_from_yields_List _ (λ b i. bit_or b (pair v a.f (a.w + 2 * i))) _ _ c.fold.ensures.ran (YieldsList-from_range a.k a.n (a.n - a.k) refl refl) (λ b x r q k. search (rules, tests)))

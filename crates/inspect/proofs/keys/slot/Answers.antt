@@ -15,7 +15,7 @@ returns-then-k-le-POINTER c =
 pub returns-then-k-le-HOME : goal.returns-then-k-le-HOME
 unfolding slot
 returns-then-k-le-HOME c =
-    let k = c.args.k in (rw (c.less.ensures, le-ltb 355 k (omega arith), le-ltb 291 k c.if-k-le-HOME.true, lt-ltb 288 k c.if-k-le-POINTER.false), omega (arith, c.less.ensures))
+    let k = c.args.k in (rw (c.saturating_sub.ensures, le-ltb 355 k (omega arith), le-ltb 291 k c.if-k-le-HOME.true, lt-ltb 288 k c.if-k-le-POINTER.false), omega (arith, c.saturating_sub.ensures))
 
 pub returns-then-k-le355 : goal.returns-then-k-le355
 unfolding slot

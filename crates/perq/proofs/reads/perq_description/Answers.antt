@@ -7,4 +7,4 @@ pub flat-requires : goal.flat-requires
 flat-requires c = (omega arith, rw c.description.ensures.0 (described_as_fits _ _ _ _ _))
 
 pub returns : goal.returns
-returns c = (c.flat.ensures ∙ rw (c.description.ensures.0, c.wide-d.ensures.0, c.wide-p.ensures.0, c.wide-g.ensures.0), rw (← c.wide-d.ensures.0, ← c.wide-p.ensures.0, ← c.wide-g.ensures.0) c.description.ensures.1)
+returns c = (c.flat.ensures ∙ rw (c.description.ensures.0), c.description.ensures.1)

@@ -7,4 +7,4 @@ pub flat-requires : goal.flat-requires
 flat-requires c = (omega arith, rw c.extract.ensures.0 (extracted_fits _ _ _ _ _))
 
 pub returns : goal.returns
-returns c = (c.flat.ensures ∙ rw (c.extract.ensures.0, c.wide-d.ensures.0, c.wide-p.ensures.0, c.wide-g.ensures.0), rw (← c.wide-d.ensures.0, ← c.wide-p.ensures.0, ← c.wide-g.ensures.0) c.extract.ensures.1)
+returns c = (c.flat.ensures ∙ rw (c.extract.ensures.0), c.extract.ensures.1)

@@ -7,4 +7,4 @@ pub flat-requires : goal.flat-requires
 flat-requires c = (omega arith, rw c.show_answer.ensures (shown_fits _ _ _ _ _))
 
 pub returns : goal.returns
-returns c = c.flat.ensures ∙ rw (c.show_answer.ensures, c.wide-d.ensures.0, c.wide-p.ensures.0, c.wide-g.ensures.0, c.wide-n.ensures.0)
+returns c = c.flat.ensures ∙ rw (c.show_answer.ensures)

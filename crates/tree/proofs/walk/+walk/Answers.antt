@@ -1,66 +1,45 @@
 use mathlib.Core.Path.{sym, ap, ◌∙◌}
 use Prim.Native.Nat.{ℕ, ◌*◌}
 use native.Mathlib.Omega.{arith}
-use Rattle.directory.specs.Entries.{met_short, met_is_file, met_what}
+use Rattle.std.proofs.Common.{rules}
+use Rattle.std.proofs.lemmas.Result.{err_from_is_err_and}
+use Rattle.directory.specs.Entries.{met_is_file}
 use Rattle.directory.proofs.Laws.{file_opened}
-use Rattle.inspect.proofs.Laws.{opened_len}
 use Rattle.tree.specs.Items.{tree_sized}
-use Rattle.tree.specs.Walks.{leaves_all, walk_deep, walk_starts, walk_ends, walk_skip, walk_full, walk_row, walk_back, walk_stopped, walk_too_deep}
+use Rattle.tree.specs.Walks.{leaves_all, walk_deep, walk_starts, walk_ends, walk_skip, walk_full, walk_row, walk_back, walk_stopped}
 use Rattle.tree.proofs.walk.+walk.Goals as goal
+use Rattle.tree.proofs.walk.+walk.Goals.{in-Directory+in_ok-at, in_default-target}
 
 pub returns-then-left-lt1 : goal.returns-then-left-lt1
-returns-then-left-lt1 t c = walk_deep _ _ _ _ _ (leaves_all _ c.args.on _ _ _ c.requires.4) c.if-left-lt1.true
+returns-then-left-lt1 t c = walk_deep _ _ _ _ _ (leaves_all _ c.args.on _ _ _ c.requires.2) c.if-left-lt1.true
 
-pub len-end-requires : goal.len-end-requires
-len-end-requires t c = opened_len (file_opened _ _ c.requires.0 _ c.requires.2)
+pub invariant_of-file : goal.invariant_of-file
+invariant_of-file t c = record { opened = file_opened _ _ c.args.directories.now.volume.lies _ c.requires.0 }
 
 pub loop-j-init : goal.loop-j-init
-loop-j-init t c = walk_starts _ _ _ _ _ _ _ _ (leaves_all _ _ _ _ _ c.requires.4) (let z = c.if-left-lt1.false in omega arith) (let z = c.if-left-lt1.false in omega arith) (ap (λ (k : ℕ). 16 * k) c.len-end.ensures.0)
+loop-j-init t c = walk_starts _ _ _ _ _ _ _ _ (leaves_all _ _ _ _ _ c.requires.2) (let z = c.if-left-lt1.false in omega arith) (let z = c.if-left-lt1.false in omega arith) (ap (λ (k : ℕ). 16 * k) c.len-end.ensures.0)
 
-pub met-x-requires : goal.met-x-requires
-met-x-requires t c = (file_opened _ _ c.requires.0 _ c.requires.2, (rw (ap (λ (k : ℕ). 16 * k) c.len-end.ensures.0) at c.loop-j-test.true), c.requires.1)
-
-pub loop-j-preserved-in-Skip : goal.loop-j-preserved-in-Skip
-loop-j-preserved-in-Skip t c = walk_skip _ _ _ _ _ _ _ _ c.loop-j.invariant c.loop-j-test.true c.met-x.ensures c.in-Skip.is
+pub loop-j-preserved-in_default : goal.loop-j-preserved-in_default
+loop-j-preserved-in_default t c = walk_skip _ _ _ _ _ _ _ _ c.loop-j.invariant c.loop-j-test.true c.met.ensures c.in_default.is
 
 pub returns-then-most-at : goal.returns-then-most-at
-returns-then-most-at t c = walk_full _ _ _ _ _ _ _ _ c.loop-j.invariant c.loop-j-test.true c.met-x.ensures c.in-Taken.is c.if-most-at.true
+returns-then-most-at t c = walk_full _ _ _ _ _ _ _ _ c.loop-j.invariant c.loop-j-test.true c.met.ensures c.in-Some.is c.if-most-at.true
 
-pub entry_row-requires : goal.entry_row-requires
-entry_row-requires t c = (file_opened _ _ c.requires.0 _ c.requires.2, (rw (ap (λ (k : ℕ). 16 * k) c.len-end.ensures.0) at c.loop-j-test.true), met_short _ _ _ _ _ _ _ (sym c.met-x.ensures ∙ c.in-Taken.is), (omega arith), (let z = met_what _ _ _ _ _ _ _ (sym c.met-x.ensures ∙ c.in-Taken.is) in omega arith), (let z = c.if-most-at.false in let i = c.loop-j.invariant.long in let r = c.requires.4 in omega arith))
-
-pub loop-j-preserved-then-what-ne1 : goal.loop-j-preserved-then-what-ne1
-loop-j-preserved-then-what-ne1 t c = walk_row _ _ _ _ _ _ _ _ c.loop-j.invariant c.loop-j-test.true c.met-x.ensures c.in-Taken.is c.if-most-at.false c.entry_row.ensures c.entry_row.auto.rows c.if-what-ne1.true
-
-pub walk-y-requires : goal.walk-y-requires
-walk-y-requires t c = ((let z = c.if-left-lt1.false in omega arith), (c.requires.0, c.requires.1, met_is_file _ _ _ _ _ _ _ (sym c.met-x.ensures ∙ c.in-Taken.is) c.if-what-ne1.false, (let z = c.requires.3 in omega arith), (let z = c.entry_row.auto.rows in let y = c.loop-j.invariant.long in let r = c.requires.4 in omega arith), c.requires.5))
+pub walk-requires : goal.walk-requires
+walk-requires t c = (search rules, (met_is_file _ _ _ _ _ (sym c.met.ensures ∙ c.in-Some.is) c.in-Directory.is, search rules, search rules, c.requires.3))
 
 pub loop-j-preserved : goal.loop-j-preserved
-loop-j-preserved t c = walk_back _ _ _ _ _ _ _ _ c.loop-j.invariant c.loop-j-test.true c.met-x.ensures c.in-Taken.is c.if-most-at.false c.entry_row.ensures c.entry_row.auto.rows c.if-what-ne1.false (tree_sized _ _ _ _ _ (met_is_file _ _ _ _ _ _ _ (sym c.met-x.ensures ∙ c.in-Taken.is) c.if-what-ne1.false)) c.walk-y.ensures.0 c.walk-y.ensures.1 c.in-Going.is c.walk-y.auto.rows
+loop-j-preserved t c =
+    elim c.match-target.branch [
+      | in-Directory+in_ok-at w ↦
+          rw (w.at-is, w.rows-is) (walk_back _ _ _ _ _ _ _ _ c.loop-j.invariant c.loop-j-test.true c.met.ensures c.in-Some.is c.if-most-at.false c.entry_row.ensures c.entry_row.auto.rows w.in-Directory.is
+          (tree_sized _ _ _ _ _ (met_is_file _ _ _ _ _ (sym c.met.ensures ∙ c.in-Some.is) w.in-Directory.is)) w.walk.ensures.0 w.walk.ensures.1 w.in_ok-at.was w.walk.auto.rows)
+      | in_default-target w ↦
+          rw (w.at-is, w.rows-is) (walk_row _ _ _ _ _ _ _ _ c.loop-j.invariant c.loop-j-test.true c.met.ensures c.in-Some.is c.if-most-at.false c.entry_row.ensures c.entry_row.auto.rows w.in_default-target.not-Directory)
+    ]
 
-pub returns-in-Stopped : goal.returns-in-Stopped
-returns-in-Stopped t c = walk_stopped _ _ _ _ _ _ _ _ c.loop-j.invariant c.loop-j-test.true c.met-x.ensures c.in-Taken.is c.if-most-at.false c.entry_row.ensures c.entry_row.auto.rows c.if-what-ne1.false (tree_sized _ _ _ _ _ (met_is_file _ _ _ _ _ _ _ (sym c.met-x.ensures ∙ c.in-Taken.is) c.if-what-ne1.false)) c.walk-y.ensures.0 c.walk-y.ensures.1 c.in-Stopped.is
-
-pub returns-in-Deep : goal.returns-in-Deep
-returns-in-Deep t c = walk_too_deep _ _ _ _ _ _ _ _ c.loop-j.invariant c.loop-j-test.true c.met-x.ensures c.in-Taken.is c.if-most-at.false c.entry_row.ensures c.entry_row.auto.rows c.if-what-ne1.false (tree_sized _ _ _ _ _ (met_is_file _ _ _ _ _ _ _ (sym c.met-x.ensures ∙ c.in-Taken.is) c.if-what-ne1.false)) c.walk-y.ensures.0 c.walk-y.ensures.1 c.in-Deep.is
+pub returns-in_err-at : goal.returns-in_err-at
+returns-in_err-at t c = let p = err_from_is_err_and c.from_residual.result c.from_residual.ensures.1 in rw (p.1, p.2) (walk_stopped _ _ _ _ _ _ _ _ c.loop-j.invariant c.loop-j-test.true c.met.ensures c.in-Some.is c.if-most-at.false c.entry_row.ensures c.entry_row.auto.rows c.in-Directory.is (tree_sized _ _ _ _ _ (met_is_file _ _ _ _ _ (sym c.met.ensures ∙ c.in-Some.is) c.in-Directory.is)) c.walk.ensures.0 c.walk.ensures.1 c.in_err-at.was)
 
 pub returns : goal.returns
 returns t c = walk_ends _ _ _ _ _ _ _ _ c.loop-j.invariant c.loop-j-test.false
-
-pub overflow_sub-level : goal.overflow_sub-level
-overflow_sub-level t c = let z = c.requires.3 in omega arith
-
-pub shape_of-rows-then-most-at : goal.shape_of-rows-then-most-at
-shape_of-rows-then-most-at t c = c.loop-j.invariant.long
-
-pub overflow_add-at : goal.overflow_add-at
-overflow_add-at t c = let z = c.if-most-at.false in let m = c.requires.5 in omega arith
-
-pub shape_of-rows-in-Stopped : goal.shape_of-rows-in-Stopped
-shape_of-rows-in-Stopped t c = c.walk-y.auto.rows ∙ c.entry_row.auto.rows ∙ c.loop-j.invariant.long
-
-pub shape_of-rows-in-Deep : goal.shape_of-rows-in-Deep
-shape_of-rows-in-Deep t c = c.walk-y.auto.rows ∙ c.entry_row.auto.rows ∙ c.loop-j.invariant.long
-
-pub shape_of-rows : goal.shape_of-rows
-shape_of-rows t c = c.loop-j.invariant.long

@@ -1,5 +1,0 @@
-use Rattle.directory.specs.Entries.{directory_as}
-use Rattle.directory.proofs.entry.is_directory.Goals as goal
-
-pub returns : goal.returns
-returns c = directory_as _ _ _ c.word.ensures.0

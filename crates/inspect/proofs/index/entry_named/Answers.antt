@@ -1,9 +1,0 @@
-use Rattle.volume.proofs.KeyLaws.{number_small}
-use Rattle.inspect.proofs.Signs.{passed_word, passed_fits}
-use Rattle.inspect.proofs.index.entry_named.Goals as goal
-
-pub names-requires : goal.names-requires
-names-requires c = (c.requires.0, passed_fits _ _ (record { sfits = c.number_of.type_inv }) c.number_of.ensures)
-
-pub returns : goal.returns
-returns c = rw (passed_word _ _ (record { sfits = c.number_of.type_inv }) c.number_of.ensures (number_small _), c.pair-x.ensures.0) at c.names.ensures

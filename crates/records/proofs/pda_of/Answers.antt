@@ -1,5 +1,0 @@
-use Rattle.drive.specs.Fits.{pda_small}
-use Rattle.records.proofs.pda_of.Goals as goal
-
-pub returns : goal.returns
-returns c = (c.pda.ensures, rw c.pda.ensures (pda_small _ _ c.requires))
