@@ -22,7 +22,7 @@ pub enum Refusal {
     BadName,
 }
 
-// The number of a refusal.
+// The number of a refusal, by the name that contracts and docs have for it; `u32::from` below is the same.
 pub fn number(why: Refusal) -> u32
     ensures { result ≡ number why }
 {

@@ -74,7 +74,7 @@ impl<'a> Rule<'a> {
         }
     }
 
-    // The hash of a name. As a sum over a zip it was not proved: std asks beforehand that the sum fits, which only its own loop tells.
+    // The hash of a name. A sum over a zip would have to be known to fit before it is made, which the loop's invariant tells turn by turn.
     #[tactic(auto, using(crate::specs::Entries::weighs))]
     fn hash(&self, x: &[u8]) -> usize
         requires { (length self.now.weights.now ≡ 26) × (length x.now ≤ 25) }

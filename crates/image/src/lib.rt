@@ -35,7 +35,8 @@ pub fn pair(img: &[u8], b: usize, w: usize) -> usize
     word(img, b, w) + 65536 * word(img, b, w + 1)
 }
 
-// A word as the signed number that it is, without a branch: half of all words up, round to the others, and down again.
+// A word as the signed number that it is, without a branch: half of all words up, round to the others, and down again. This and `word_of` are
+// of i32 and not of i16, as docs have them: the sums around them would not fit in 16 bits.
 pub fn signed(w: usize) -> i32
     requires { w < 65536 }
     ensures { result ≡ signed w }

@@ -28,6 +28,7 @@ pub struct PerqAnswer {
     pub c: u32,
 }
 
+// A number that fits, as C has it. `u32::try_from` would test what is known.
 fn narrow(x: usize) -> u32
     requires { x < 4294967296 }
     ensures { result ≡ x }

@@ -34,6 +34,8 @@ fn unowned_from(clean: &Clean<'_>, from: usize) -> usize
         .unwrap_or(0)
 }
 
+// What stores takes the image and the partition apart: its first store would end what a `Clean` says of the image.
+
 // Repairs block b: an unowned one gets its neighbours in the chain from `first` on, an owned one its file's links.
 fn turn(img: &mut [u8], p: Partition, first: usize, b: usize, t: Progress) -> Progress
     requires { Turn p img.old first b t }

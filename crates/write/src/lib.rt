@@ -17,6 +17,8 @@ use change::Sound;
 use inspect::{File, REACH, Volume};
 use volume::{Answer, Lent, Partition, Unfit};
 
+// What writes takes the image and the partition apart, as in `change`.
+
 // The first free block once m are taken, one to three, of which q is the second and d the third.
 fn left(img: &[u8], p: Partition, m: usize, q: usize, d: usize) -> usize
     requires { (1 ≤ m) × (m ≤ 3) × (q ≡ free_at p (view img.now) 1) × (d ≡ free_at p (view img.now) 2) × ((2 < m) → (Block img.now d)) }
