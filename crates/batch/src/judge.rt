@@ -3,15 +3,17 @@ ghost use Rattle.std.specs.Prelude.{◌≡◌};
 ghost use Rattle.batch.specs.Found.{good, only, looked};
 
 use base::Refusal;
-use std::io::Read;
+use std::io::{Cursor, Read};
 use std::rt::Files;
 use std::{fs, io, str};
 use verdict::Verdict;
 
-// The bytes of a record, and of the longest image that is taken.
+// The bytes of a record, of the longest image that is taken, and of what is read: one more, by which a longer file is known.
 pub const RECORD: usize = 528;
 
 const LONGEST: usize = 24 * RECORD;
+
+const ROOM: usize = LONGEST + 1;
 
 // The verdict on the partition at `start` in an image of so many bytes. Where no good partition starts, that is block 0, which is refused.
 #[derive(Clone, Copy)]
@@ -77,21 +79,21 @@ fn image(img: &mut [u8], drive: Option<usize>) -> Found
     })
 }
 
-// The bytes of a file; of one that is longer than the longest image, one more than that has. A path that is not UTF-8 names no file.
-fn read<R: Files + Alloc>(rt: &R, path: &[u8]) -> io::Result<Vec<u8, R::A>> {
+// Reads a file into img, as much of it as there is room for, and answers how many bytes that are. A path that is not UTF-8 names no file.
+fn read(rt: &impl Files, path: &[u8], img: &mut [u8]) -> io::Result<usize> {
     let path = str::from_utf8(path).map_err(|_| io::ErrorKind::InvalidFilename)?;
-    let mut bytes = Vec::new(rt.alloc());
-    fs::open(rt, path)?
-        .take(LONGEST as u64 + 1)
-        .read_to_end(&mut bytes)?;
-    Ok(bytes)
+    let room = img.len() as u64;
+    let file = fs::open(rt, path)?;
+    let n = io::copy(&mut file.take(room), &mut Cursor::new(img))?;
+    Ok(n as usize)
 }
 
-// What is found of a file.
-pub fn file(rt: &(impl Files + Alloc), path: &[u8], drive: Option<usize>) -> Found {
-    let mut img = read(rt, path).map_err(|_| NoVerdict::Unread)?;
-    if LONGEST < img.len() {
+// What is found of a file. One that is longer than the longest image fills all the room.
+pub fn file(rt: &impl Files, path: &[u8], drive: Option<usize>) -> Found {
+    let mut img = [0u8; ROOM];
+    let n = read(rt, path, &mut img).map_err(|_| NoVerdict::Unread)?;
+    if LONGEST < n {
         return Err(NoVerdict::Long);
     }
-    image(&mut img, drive)
+    image(&mut img[..n], drive)
 }

@@ -29,7 +29,7 @@ fn drive(rt: &impl Env, i: usize) -> Option<usize>
 
 // Judges the images that the words name, each on the drive of the word behind it, writes their lines, and answers the counts. A word
 // that does not fit is taken as an empty name, which is no file's.
-fn images(rt: &(impl Env + Files + Print + AllocGlobal)) -> io::Result<Counts> {
+fn images(rt: &(impl Env + Files + Print)) -> io::Result<Counts> {
     let mut counts = Counts::default();
     let mut name = [0u8; NAME];
     for pair in 0..usize::MAX / 2 {
