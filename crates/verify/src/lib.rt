@@ -65,8 +65,8 @@ fn step_at(clean: &Clean<'_>, before: usize, b: usize) -> Step
     }
 }
 
-// The chain from `head` on, or the block of the first wrong link. The walk has the address of b, and that of the block before: the link by
-// which it came to a block is the block's address, so that none is worked out on the way.
+// The chain from `head` on, or the block of the first wrong link: the walk is left by `break` with either. It has the address of b, and that
+// of the block before: the link by which it came to a block is the block's address, so that none is worked out on the way.
 fn walk_from(clean: &Clean<'_>, head: usize) -> Result<Chain, usize>
     requires { head ≤ clean.now.volume.p.e }
     ensures { result ≡ walk clean.now.volume.p (view clean.now.volume.img.now) (clean.now.volume.p.e - clean.now.volume.p.s) 0 head 0 }
@@ -76,21 +76,23 @@ fn walk_from(clean: &Clean<'_>, head: usize) -> Result<Chain, usize>
     let mut before: usize = 0;
     let mut own = drive::pda(volume.p.drive, head);
     let mut b = head;
-    for n in 0..most {
-        match step_at(clean, before, b) {
-            Step::Bad => return Err(b),
-            Step::End => return Ok(Chain {
-                blocks: n + 1,
-                last: b,
-            }),
-            Step::On(c) => {
-                before = own;
-                own = image::pair(volume.img, b, NEXT);
-                b = c;
+    'walk: {
+        for n in 0..most {
+            match step_at(clean, before, b) {
+                Step::Bad => break 'walk Err(b),
+                Step::End => break 'walk Ok(Chain {
+                    blocks: n + 1,
+                    last: b,
+                }),
+                Step::On(c) => {
+                    before = own;
+                    own = image::pair(volume.img, b, NEXT);
+                    b = c;
+                }
             }
         }
+        Err(b)
     }
-    Err(b)
 }
 
 // The free chain from FreeHead on, or the block of the first wrong link.

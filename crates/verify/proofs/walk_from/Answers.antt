@@ -4,8 +4,8 @@ use Rattle.verify.proofs.walk_from.Goals as goal
 pub loop-n-preserved : goal.loop-n-preserved
 loop-n-preserved c = walk_on c.loop-n.invariant c.loop-n-test.true c.step_at.ensures c.in-On.is c.pair-own.ensures.0
 
-pub returns : goal.returns
-returns c = walk_out c.loop-n.invariant c.loop-n-test.false
+pub returns-after-loop-n : goal.returns-after-loop-n
+returns-after-loop-n c = walk_out c.loop-n.invariant c.loop-n-test.false
 
 pub returns-in-Bad : goal.returns-in-Bad
 returns-in-Bad c = walk_bad c.loop-n.invariant c.loop-n-test.true c.step_at.ensures c.in-Bad.is
