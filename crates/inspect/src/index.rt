@@ -184,7 +184,9 @@ impl Volume<'_> {
         if 355 < k { read(self.img, q, u) } else { q }
     }
 
-    // The block of key k of f but the FIB's, whose index is good, by up to three entries.
+    // The block of key k of f but the FIB's, whose index is good, by up to three entries. It is called, so that `at_key` without it is small
+    // enough to be copied into its callers.
+    #[inline(never)]
     fn far_key(&self, f: usize, k: usize) -> usize
         requires { (Readable self.now.p self.now.img.now f) × (present self.now.p (view self.now.img.now) f k ≡ true) × (k ≢ 291) }
         ensures { (result ≡ spot self.now.p (view self.now.img.now) f k) × (result ≤ self.now.p.e) }

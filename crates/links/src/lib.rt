@@ -6,7 +6,7 @@ ghost use Rattle.base.specs.Tests.{both, all};
 ghost use Rattle.drive.specs.Address.{pda};
 ghost use Rattle.image.specs.View.{pair};
 ghost use Rattle.image.specs.Image.{view};
-ghost use Rattle.volume.specs.Words.{relative_at, next_at, previous_at, slot_at};
+ghost use Rattle.volume.specs.Words.{serial_at, relative_at, next_at, previous_at, slot_at};
 ghost use Rattle.volume.specs.Keys.{key_of, child, first};
 ghost use Rattle.volume.specs.Files.{owned, present, above, below, link, linked};
 ghost use Rattle.volume.specs.Answers.{Unmarred};
@@ -34,12 +34,22 @@ pub fn owned(clean: &Clean<'_>, b: usize) -> bool
     requires { b ≤ clean.now.volume.p.e }
     ensures { result ≡ owned clean.now.volume.p (view clean.now.volume.img.now) b }
 {
-    let volume = &clean.volume;
-    let x = image::pair(volume.img, b, SERIAL);
+    let x = image::pair(clean.volume.img, b, SERIAL);
     // Most free blocks have no serial: nothing is to be split.
     if x == 0 {
         return false;
     }
+    leads_back(clean, b, x)
+}
+
+// The same of a block whose serial is x. It is a function of its own, and called, so that for a block without a serial no register is saved and
+// no room is made for a copy of what is known of the image.
+#[inline(never)]
+fn leads_back(clean: &Clean<'_>, b: usize, x: usize) -> bool
+    requires { (b ≤ clean.now.volume.p.e) × (x ≡ pair (view clean.now.volume.img.now) b serial_at) × (x < 4294967296) }
+    ensures { result ≡ owned clean.now.volume.p (view clean.now.volume.img.now) b }
+{
+    let volume = &clean.volume;
     let f = drive::block_of(volume.p.drive, x);
     if !volume.candidate(f) {
         return false;

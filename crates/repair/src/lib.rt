@@ -2,10 +2,15 @@
 // each record is made of the partly repaired image, and its stores are those of the image as it was all the same.
 #![tactic(auto)]
 
-ghost use Rattle.std.specs.Prelude.{◌≡◌, suc, ◌-◌};
+ghost use Rattle.std.specs.Prelude.{◌≡◌, true, suc, ◌+◌, ◌-◌, ◌*◌, ◌≤◌, ◌<◌, length, [], ◌∷◌};
 ghost use Rattle.base.specs.Tests.{those, head_of};
+ghost use Rattle.drive.specs.Address.{or_nil};
+ghost use Rattle.image.specs.View.{put, put2};
 ghost use Rattle.image.specs.Image.{view};
-ghost use Rattle.volume.specs.Files.{unowned};
+ghost use Rattle.image.specs.Saves.{Applied};
+ghost use Rattle.volume.specs.Words.{serial_at, filler_at, next_at, previous_at};
+ghost use Rattle.volume.specs.Files.{owned, unowned};
+ghost use Rattle.volume.specs.Plans.{st, as_filler, relinked};
 ghost use Rattle.volume.specs.Calls.{repair_in, planned, Call, Answered};
 ghost use Rattle.blocks.specs.Ready.{Ready};
 ghost use Rattle.repair.specs.Mending.{is_free, Turn, Turned, Mending};
@@ -34,38 +39,56 @@ fn unowned_from(clean: &Clean<'_>, from: usize) -> usize
         .unwrap_or(0)
 }
 
-// What stores takes the image and the partition apart: its first store would end what a `Clean` says of the image.
+// What stores takes the image and the partition apart: its first store would end what a `Clean` says of the image. Where the limit leaves no
+// store, no record is made.
+
+// Stores what an unowned block b of the chain from `first` on becomes, the next unowned one being `above`. Answers the stores that are left.
+fn free(img: &mut [u8], p: Partition, first: usize, b: usize, above: usize, t: Progress) -> usize
+    requires { (528 * b + 528 ≤ length img.old) × (above < 69552) × (t.last < 69552) }
+    ensures { Applied t.left (st b (put2 serial_at 0 (put filler_at (as_filler first) (put2 next_at (or_nil p.drive above) (put2 previous_at (or_nil p.drive t.last) (view img.old b))))) ∷ []) img.old img.new result }
+{
+    if t.left < 1 {
+        return t.left;
+    }
+    let x = blocks::freed(img, p.drive, b, first, above, t.last);
+    image::step(img, t.left, Some(image::saved(b, x)))
+}
+
+// Stores what an owned block b becomes, its file's links. Answers the stores that are left.
+fn relink(img: &mut [u8], p: Partition, b: usize, left: usize) -> usize
+    requires { (Ready p img.old) × (b ≤ p.e) × (owned p (view img.old) b ≡ true) }
+    ensures { Applied left (st b (relinked p (view img.old) b) ∷ []) img.old img.new result }
+{
+    if left < 1 {
+        return left;
+    }
+    let clean = Clean {
+        volume: Volume { img, p },
+    };
+    let x = blocks::relinked(&clean, b);
+    image::step(img, left, Some(image::saved(b, x)))
+}
 
 // Repairs block b: an unowned one gets its neighbours in the chain from `first` on, an owned one its file's links.
 fn turn(img: &mut [u8], p: Partition, first: usize, b: usize, t: Progress) -> Progress
     requires { Turn p img.old first b t }
     ensures { Turned p img.old img.new b t result }
 {
-    let Progress {
-        left,
-        last,
-        next,
-        count,
-    } = t;
-    let clean = Clean {
-        volume: Volume { img, p },
-    };
-    if b == next {
+    if b == t.next {
+        let clean = Clean {
+            volume: Volume { img, p },
+        };
         let above = unowned_from(&clean, b + 1);
-        let x = blocks::freed(img, p.drive, b, first, above, last);
         return Progress {
-            left: image::step(img, left, Some(image::saved(b, x))),
+            left: free(img, p, first, b, above, t),
             last: b,
             next: above,
-            count: count + 1,
+            count: t.count + 1,
         };
     }
-    let x = blocks::relinked(&clean, b);
     Progress {
-        left: image::step(img, left, Some(image::saved(b, x))),
-        last,
-        next,
-        count,
+        left: relink(img, p, b, t.left),
+        ..t
     }
 }
 
